@@ -1,0 +1,16 @@
+pub mod Token
+pub mod Characters
+pub mod Then
+pub mod CodeUnit
+pub mod ByteSequence
+pub mod Part
+pub mod Grammar
+pub mod Viable
+pub mod Lookup
+pub mod NumberRest
+pub mod NumberSteps
+pub mod TextRest
+pub mod Word
+pub mod Residual
+pub mod Refusal
+pub mod Stands

@@ -1,0 +1,4 @@
+pub mod EndZeros
+pub mod LastDigits
+pub mod Nearest
+pub mod Pieces

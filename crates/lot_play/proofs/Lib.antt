@@ -1,0 +1,6 @@
+pub mod ReadLoop
+pub mod WriteLoop
+pub mod Answering
+pub mod Ending
+pub mod Running
+pub mod Words

@@ -1,0 +1,58 @@
+-- How a run on words ends, from how it ends on the content that they name.
+use Rattle.std.proofs.Common.{◌≡◌, ◌⊎◌, ℕ, List, [], Option, sym, refl, subst, inl, inr}
+use Rattle.lot_json.specs.declared.number.Number.{Number}
+use Rattle.lot_play.specs.declared.status.Status.{Status}
+use Rattle.lot_play.specs.declared.status.Status.TheVariants.{Done, Refused, Usage, ReadFault, WriteFault, Memory, TooLong}
+use Rattle.lot_play.specs.Command.{IsTheFrame}
+use Rattle.lot_play.specs.Outside.{Told, Rose, Adds, AddsPrefix}
+use Rattle.lot_play.specs.Output.{IsMisused, IsTold, IsWhole, IsShort, Answers, Output, on_misuse, on_frame}
+use Rattle.lot_play.specs.Judged.{Ends}
+
+-- What the output on words says of the one content that they name.
+record Named (told : List ℕ → Option (List ℕ)) (name : List ℕ) (time : Number) (bytes : List ℕ) (status : Status) : Type 0 where
+  content : List ℕ
+  is_told : Told (told name) content
+  answers : Answers content time bytes status
+
+module _ (told : List ℕ → Option (List ℕ)) (words : List (List ℕ)) (name : List ℕ) (time : Number) (the : IsTheFrame words name time) where
+  named : (bytes : List ℕ) (status : Status) → Output told words bytes status → Named told name time bytes status
+  named bytes status (on_misuse none eb es) = absurd (none name time the.is)
+  named bytes status (on_frame n t content is h a) = record {
+    content = content;
+    is_told = subst (λ (z : List ℕ). Told (told z) content) (the.only_name n t is) h;
+    answers = subst (λ (z : Number). Answers content z bytes status) (the.only_time n t is) a;
+  }
+
+  module _ (held now : Option (List ℕ)) (faults faulted given gave failures failed : ℕ) (r : Status) (ends : Ends (told name) time held now faults faulted given gave failures failed r) where
+    pub run_defined : IsWhole r → (bytes : List ℕ) (status : Status) → Output told words bytes status → (r ≡ status) × Adds held now bytes
+    run_defined whole bytes status o =
+        let n = named bytes status o in
+        let w = ends.whole whole n.content n.is_told in
+        (sym (w.1.only_status bytes status n.answers), subst (λ (z : List ℕ). Adds held now z) (sym (w.1.only_bytes bytes status n.answers)) w.2)
+
+    pub run_exists : IsWhole r → IsTold told words → (bytes : List ℕ) × Output told words bytes r
+    run_exists whole h =
+        let c = h name time the.is in
+        let w = ends.whole whole c.0 c.1 in
+        (w.0, on_frame name time c.0 the.is c.1 w.1.is)
+
+    pub run_front : IsShort r → (bytes : List ℕ) (status : Status) → Output told words bytes status → AddsPrefix held now bytes
+    run_front short bytes status o = let n = named bytes status o in ends.short short n.content n.is_told bytes status n.answers
+
+whole_or : (r : Status) (P Q : Type 0) → (r ≡ ReadFault → P) → (r ≡ WriteFault → Q) → (P → ⊥) → (Q → ⊥) → IsWhole r ⊎ (r ≡ Memory)
+whole_or Done P Q p q np nq = inl tt
+whole_or Refused P Q p q np nq = inl tt
+whole_or Usage P Q p q np nq = inl tt
+whole_or ReadFault P Q p q np nq = absurd (np (p refl))
+whole_or WriteFault P Q p q np nq = absurd (nq (q refl))
+whole_or Memory P Q p q np nq = inr refl
+whole_or TooLong P Q p q np nq = inl tt
+
+pub run_complete : (told : Option (List ℕ)) (time : Number) (held now : Option (List ℕ)) (faults faulted given gave failures failed : ℕ) (r : Status) → Ends told time held now faults faulted given gave failures failed r
+    → (Rose faults faulted → ⊥) → (Rose failures failed → ⊥) → IsWhole r ⊎ (r ≡ Memory)
+run_complete told time held now faults faulted given gave failures failed r ends = whole_or r (Rose faults faulted) (Rose failures failed) ends.read_fault ends.write_fault
+
+-- Words that are no command.
+pub misuse_defined : (told : List ℕ → Option (List ℕ)) (words : List (List ℕ)) → IsMisused words → (bytes : List ℕ) (status : Status) → Output told words bytes status → (bytes ≡ []) × (status ≡ Usage)
+misuse_defined told words none bytes status (on_misuse n eb es) = (eb, es)
+misuse_defined told words none bytes status (on_frame n t content is h a) = absurd (none n t is)

@@ -1,0 +1,10 @@
+-- The first `at` bytes were taken; what is left is the measure.
+use Rattle.std.proofs.Common.{◌-◌, length}
+use Rattle.lot_play.proofs.WriteLoop.{IsWritten}
+use Rattle.lot_play.proofs.writing.write_all.Given as goal
+
+abbrev pub invariant-loop-at : goal.invariant-loop-at
+invariant-loop-at g l = IsWritten (g.K.Sink.held l.initial.sink) (g.K.Sink.held l.sink) l.bytes l.at (g.K.Sink.faults l.initial.sink) (g.K.Sink.faults l.sink)
+
+abbrev pub decreases-loop-at : goal.decreases-loop-at
+decreases-loop-at g l = length l.bytes - l.at

@@ -1,0 +1,114 @@
+-- What the program answers: which bytes and which status, for every list of words and every content of the folder. The
+-- words, the lines and the statuses are this project's own.
+use Rattle.std.specs.Prelude.{◌≡◌, ℕ, ℤ, ◌≤◌, ◌<◌, ◌&&◌, int_le, int_lt, List, [], ◌∷◌, ◌++◌, length, Option, None, Some, codes, if◌then◌else◌}
+use Rattle.std.specs.Fmt.{decimal}
+use Rattle.lot_json.specs.declared.number.Number.{Number}
+use Rattle.lot_json.specs.declared.number.Number.TheVariants.{Micro, Beyond}
+use Rattle.lot_json.specs.declared.json.Json.{Json}
+use Rattle.lot_json.specs.Token.{Token}
+use Rattle.lot_json.specs.Grammar.{Text}
+use Rattle.lot_json.specs.Viable.{IsText, TellsFar}
+use Rattle.lot_play.specs.declared.document.canvas.Canvas.{Canvas}
+use Rattle.lot_play.specs.declared.document.Document.{Document}
+use Rattle.lot_play.specs.declared.status.Status.{Status}
+use Rattle.lot_play.specs.declared.status.Status.TheVariants.{Done, Refused, Usage, ReadFault, WriteFault, Memory, TooLong}
+use Rattle.lot_play.specs.declared.answer.Answer.{Answer}
+use Rattle.lot_play.specs.Outside.{Told}
+use Rattle.lot_play.specs.Form.{document_of}
+use Rattle.lot_play.specs.Frame.{frame_of}
+use Rattle.lot_play.specs.Svg.{svg_text}
+
+-- The words `frame DOC TIME`: the document's name, and the number of the time's token.
+abbrev pub IsFrame : List (List ℕ) → List ℕ → Number → Type 0
+IsFrame words name time = (token : List ℕ) × (words ≡ codes "frame" ∷ name ∷ token ∷ []) × Token token time
+
+-- The words ask for nothing.
+abbrev pub IsMisused : List (List ℕ) → Type 0
+IsMisused words = (name : List ℕ) (time : Number) → IsFrame words name time → ⊥
+
+-- The most bytes that a document may have.
+abbrev pub most : ℕ
+most = 16777216
+
+-- The time, where the animation runs at it.
+abbrev pub moment : Canvas → Number → Option ℤ
+moment c (Micro t) = if int_le c.ip t && int_lt t c.op then Some t else None
+moment c Beyond = None
+
+-- The bytes and the status of an answer.
+abbrev pub Reply : Type 0
+Reply = List ℕ × Status
+
+-- A value with the bytes and the status of a reply.
+abbrev pub IsReply : Reply → Answer → Type 0
+IsReply reply a = (a.bytes ≡ reply.0) × (a.status ≡ reply.1)
+
+-- The SVG of a document at a moment. Nothing, where it does not run.
+abbrev pub moment_reply : Document → Option ℤ → Reply
+moment_reply d None = ([], Usage)
+moment_reply d (Some t) = (svg_text d.canvas (frame_of d t), Done)
+
+unfoldable pub frame_reply : Document → Number → Reply
+frame_reply d time = moment_reply d (moment d.canvas time)
+
+-- The line for a text that is no document of the form that is built.
+abbrev pub unbuilt_line : List ℕ
+unbuilt_line = codes "unbuilt\n"
+
+abbrev pub document_reply : Option Document → Number → Reply
+document_reply None time = (unbuilt_line, Refused)
+document_reply (Some d) time = frame_reply d time
+
+unfoldable pub tree_reply : Json → Number → Reply
+tree_reply j time = document_reply (document_of j) time
+
+-- The line for bytes that are no JSON text, with how far they are viable.
+unfoldable pub syntax_line : ℕ → List ℕ
+syntax_line offset = codes "syntax " ++ decimal offset ++ codes "\n"
+
+-- The answer on a content.
+pub data Answers (content : List ℕ) (time : Number) : List ℕ → Status → Type 0 where
+  on_too_long : {bytes : List ℕ} {status : Status} → most < length content → bytes ≡ [] → status ≡ TooLong → Answers content time bytes status
+  on_no_text : {bytes : List ℕ} {status : Status} (k : ℕ) → length content ≤ most → (IsText content → ⊥) → TellsFar content k → bytes ≡ syntax_line k → status ≡ Refused → Answers content time bytes status
+  on_text : {bytes : List ℕ} {status : Status} (j : Json) → length content ≤ most → Text content j → (bytes, status) ≡ tree_reply j time → Answers content time bytes status
+
+-- The output of the program on its words, where the named content is told.
+pub data Output (told : List ℕ → Option (List ℕ)) (words : List (List ℕ)) : List ℕ → Status → Type 0 where
+  on_misuse : {bytes : List ℕ} {status : Status} → IsMisused words → bytes ≡ [] → status ≡ Usage → Output told words bytes status
+  on_frame : {bytes : List ℕ} {status : Status} (name : List ℕ) (time : Number) (content : List ℕ) → IsFrame words name time → Told (told name) content → Answers content time bytes status → Output told words bytes status
+
+-- The content that the words name is told.
+abbrev pub IsTold : (List ℕ → Option (List ℕ)) → List (List ℕ) → Type 0
+IsTold told words = (name : List ℕ) (time : Number) → IsFrame words name time → (content : List ℕ) × Told (told name) content
+
+-- A status that ends a run whose output was written whole.
+abbrev pub IsWhole : Status → Type 0
+IsWhole Done = Unit {0}
+IsWhole Refused = Unit {0}
+IsWhole Usage = Unit {0}
+IsWhole TooLong = Unit {0}
+IsWhole _ = ⊥
+
+-- A status that ends a run which stopped short.
+abbrev pub IsShort : Status → Type 0
+IsShort ReadFault = Unit {0}
+IsShort WriteFault = Unit {0}
+IsShort Memory = Unit {0}
+IsShort _ = ⊥
+
+-- A status with which nothing is written.
+abbrev pub IsSilent : Status → Type 0
+IsSilent Usage = Unit {0}
+IsSilent ReadFault = Unit {0}
+IsSilent TooLong = Unit {0}
+IsSilent _ = ⊥
+
+-- The number of a status, with which the program ends.
+abbrev pub status_number : Status → ℕ
+status_number Done = 0
+status_number Refused = 1
+status_number Usage = 2
+status_number ReadFault = 3
+status_number WriteFault = 4
+status_number Memory = 5
+status_number TooLong = 6

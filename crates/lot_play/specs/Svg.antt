@@ -1,0 +1,111 @@
+-- The text of a finished frame in SVG 1.1: elements and attributes of the standard, in a layout that is this project's
+-- own. After each '>' of a tag comes one line feed, and there is no other white space between tags.
+use Rattle.std.specs.Prelude.{ℕ, ℤ, pos, ◌+◌, ◌/◌, ◌%◌, ◌^◌, Bool, ◌&&◌, List, [], ◌∷◌, ◌++◌, codes, nat_lt, flat_map, if◌then◌else◌}
+use Rattle.std.specs.Ordering.{int_eq}
+use Rattle.lot_types.specs.declared.rgb.Rgb.{Rgb}
+use Rattle.lot_types.specs.declared.matrix.Matrix.{Matrix}
+use Rattle.lot_num.specs.Digits.{printed}
+use Rattle.lot_play.specs.declared.document.canvas.Canvas.{Canvas}
+use Rattle.lot_play.specs.Frame.{Node}
+
+-- What stands in front of the value of an attribute.
+unfoldable pub attribute_start : List ℕ → List ℕ
+attribute_start name = codes " " ++ name ++ codes "=\""
+
+unfoldable pub attribute_end : List ℕ
+attribute_end = codes "\""
+
+-- An attribute: a space, its name, and its value in quotation marks.
+unfoldable pub attribute : List ℕ → List ℕ → List ℕ
+attribute name value = attribute_start name ++ value ++ attribute_end
+
+unfoldable pub tag_start : List ℕ → List ℕ
+tag_start name = codes "<" ++ name
+
+unfoldable pub tag_end : List ℕ
+tag_end = codes ">\n"
+
+unfoldable pub empty_tag_end : List ℕ
+empty_tag_end = codes "/>\n"
+
+-- The tag that opens an element, with its attributes.
+abbrev pub open_tag : List ℕ → List ℕ → List ℕ
+open_tag name attributes = tag_start name ++ attributes ++ tag_end
+
+-- The tag of an element without content.
+abbrev pub empty_tag : List ℕ → List ℕ → List ℕ
+empty_tag name attributes = tag_start name ++ attributes ++ empty_tag_end
+
+unfoldable pub close_tag : List ℕ → List ℕ
+close_tag name = codes "</" ++ name ++ codes ">\n"
+
+-- A length in pixels, with three digits behind the point.
+unfoldable pub length_text : ℤ → List ℕ
+length_text v = printed v 3
+
+-- A coefficient, with six digits behind the point.
+unfoldable pub entry_text : ℤ → List ℕ
+entry_text v = printed v 6
+
+-- A hexadecimal digit in lower case.
+abbrev pub hex_text : ℕ → ℕ
+hex_text n = if nat_lt n 10 then 48 + n else 87 + n
+
+unfoldable pub byte_text : ℕ → List ℕ
+byte_text n = hex_text (n / 16) ∷ hex_text (n % 16) ∷ []
+
+unfoldable pub colour_text : Rgb → List ℕ
+colour_text c = codes "#" ++ byte_text c.r ++ byte_text c.g ++ byte_text c.b
+
+abbrev pub is_identity : Matrix → Bool
+is_identity m = int_eq m.a (pos (10 ^ 6)) && int_eq m.b (pos 0) && int_eq m.c (pos 0) && int_eq m.d (pos (10 ^ 6)) && int_eq m.e (pos 0) && int_eq m.f (pos 0)
+
+abbrev pub entry_pair_text : ℤ → ℤ → List ℕ
+entry_pair_text x y = entry_text x ++ codes " " ++ entry_text y
+
+unfoldable pub matrix_text : Matrix → List ℕ
+matrix_text m =
+    codes "matrix(" ++ entry_pair_text m.a m.b ++ codes " " ++ entry_pair_text m.c m.d ++ codes " " ++ entry_pair_text m.e m.f ++ codes ")"
+
+-- A point of path data, behind the letter of its command.
+abbrev pub point_text : ℤ → ℤ → List ℕ
+point_text x y = length_text x ++ codes " " ++ length_text y
+
+-- The closed contour (0, 0), (w, 0), (w, h), (0, h). The last side is the one that closes it.
+unfoldable pub rectangle_text : ℤ → ℤ → List ℕ
+rectangle_text w h =
+    codes "M" ++ point_text (pos 0) (pos 0) ++ codes "L" ++ point_text w (pos 0) ++ codes "L" ++ point_text w h ++ codes "L" ++ point_text (pos 0) h ++ codes "Z"
+
+-- The transform of a layer, left out where it is the identity.
+unfoldable pub transform_text : Matrix → List ℕ
+transform_text m = if is_identity m then [] else attribute (codes "transform") (matrix_text m)
+
+-- A rectangle that is filled with a colour.
+unfoldable pub fill_text : Node → List ℕ
+fill_text n = empty_tag (codes "path") (attribute (codes "fill") (colour_text n.rgb) ++ attribute (codes "d") (rectangle_text n.w n.h))
+
+-- A layer: a group with its transform, and its fill in it.
+unfoldable pub node_text : Node → List ℕ
+node_text n = open_tag (codes "g") (transform_text n.matrix) ++ fill_text n ++ close_tag (codes "g")
+
+unfoldable pub view_box_text : Canvas → List ℕ
+view_box_text c = codes "0 0 " ++ length_text c.w ++ codes " " ++ length_text c.h
+
+-- The size of an animation, and the part of the plane that it shows.
+unfoldable pub canvas_text : Canvas → List ℕ
+canvas_text c = attribute (codes "width") (length_text c.w) ++ attribute (codes "height") (length_text c.h) ++ attribute (codes "viewBox") (view_box_text c)
+
+-- The namespace and the version of the standard.
+unfoldable pub namespace_text : List ℕ
+namespace_text = attribute (codes "xmlns") (codes "http://www.w3.org/2000/svg")
+
+unfoldable pub version_text : List ℕ
+version_text = attribute (codes "version") (codes "1.1")
+
+-- The tag that opens the root element.
+unfoldable pub head_text : Canvas → List ℕ
+head_text c = open_tag (codes "svg") (namespace_text ++ version_text ++ canvas_text c)
+
+-- The whole text: the root element round the layers.
+abbrev pub svg_text : Canvas → List Node → List ℕ
+svg_text c nodes = head_text c ++ flat_map node_text nodes ++ close_tag (codes "svg")

@@ -1,0 +1,13 @@
+use lot_types::{Fx, Point, Rgb, Time};
+
+/// A layer of one colour: a rectangle of `w` by `h` pixels, of which the left upper corner stands at `position`. It is
+/// visible from `ip` (with it) to `op` (without it).
+#[derive(Clone, Copy)]
+pub struct SolidLayer {
+    pub ip: Time,
+    pub op: Time,
+    pub position: Point,
+    pub w: Fx,
+    pub h: Fx,
+    pub rgb: Rgb,
+}

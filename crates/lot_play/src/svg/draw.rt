@@ -1,0 +1,152 @@
+//! The text of a frame.
+ghost use Rattle.std.specs.Prelude.{◌≡◌, ◌++◌, OnOk, IfOk, flat_map};
+ghost use Rattle.lot_play.specs.Frame.{frame_of, nodes_of, move_by, node, is_visible as visible_at};
+ghost use Rattle.lot_play.specs.Svg.{svg_text, head_text, canvas_text, namespace_text, version_text, node_text, fill_text, transform_text, length_text, attribute, is_identity as identity};
+
+use crate::document::Document;
+use crate::document::canvas::Canvas;
+use crate::document::solid::SolidLayer;
+use crate::svg::element::{
+    end_attribute, end_empty_tag, end_tag, put_attribute, put_close_tag, start_attribute, start_tag,
+};
+use crate::svg::number::{put_colour, put_length, put_matrix, put_rectangle, put_view_box};
+use lot_types::{Bytes, Fx, Matrix, Memory, Point, Time};
+use std::alloc::Global;
+
+/// The map that moves every point by the same way.
+fn moved_by(p: Point) -> Matrix
+    ensures { result ≡ move_by p }
+{
+    Matrix {
+        e: p.x,
+        f: p.y,
+        ..Matrix::IDENTITY
+    }
+}
+
+fn is_identity(m: &Matrix) -> bool
+    ensures { result ≡ identity m.now }
+{
+    *m == Matrix::IDENTITY
+}
+
+/// The transform of a layer, left out where it is the identity.
+#[tactic(auto, unfolding(crate::specs::Svg::attribute, crate::specs::Svg::transform_text))]
+fn put_transform(out: &mut Bytes, m: &Matrix) -> Result<(), Memory>
+    ensures { OnOk result (out.new ≡ out.old ++ transform_text m.now) }
+{
+    if is_identity(m) {
+        return Ok(());
+    }
+    start_attribute(out, "transform")?;
+    put_matrix(out, m)?;
+    end_attribute(out)
+}
+
+/// The rectangle of a layer, filled with its colour.
+#[tactic(auto, unfolding(crate::specs::Svg::attribute, crate::specs::Svg::fill_text))]
+fn put_fill(out: &mut Bytes, layer: &SolidLayer) -> Result<(), Memory>
+    ensures { OnOk result (out.new ≡ out.old ++ fill_text (node layer.now)) }
+{
+    start_tag(out, "path")?;
+    start_attribute(out, "fill")?;
+    put_colour(out, layer.rgb)?;
+    end_attribute(out)?;
+    start_attribute(out, "d")?;
+    put_rectangle(out, layer.w, layer.h)?;
+    end_attribute(out)?;
+    end_empty_tag(out)
+}
+
+/// A layer: a group with its transform, and its fill in it.
+#[tactic(auto, unfolding(crate::specs::Svg::node_text))]
+fn put_layer(out: &mut Bytes, layer: &SolidLayer) -> Result<(), Memory>
+    ensures { OnOk result (out.new ≡ out.old ++ node_text (node layer.now)) }
+{
+    start_tag(out, "g")?;
+    put_transform(out, &moved_by(layer.position))?;
+    end_tag(out)?;
+    put_fill(out, layer)?;
+    put_close_tag(out, "g")
+}
+
+fn is_visible(layer: &SolidLayer, t: Time) -> bool
+    ensures { result ≡ visible_at t layer.now }
+{
+    layer.ip.get() <= t.get() && t.get() < layer.op.get()
+}
+
+/// The visible layers from the last to the first.
+fn put_layers(out: &mut Bytes, layers: &[SolidLayer], t: Time) -> Result<(), Memory>
+    ensures { OnOk result (out.new ≡ out.old ++ flat_map node_text (nodes_of t layers.now)) }
+{
+    let mut i = layers.len();
+    while i > 0 {
+        i -= 1;
+        if is_visible(&layers[i], t) {
+            put_layer(out, &layers[i])?;
+        }
+    }
+    Ok(())
+}
+
+/// An attribute that is a length.
+#[tactic(auto, unfolding(crate::specs::Svg::attribute))]
+fn put_length_attribute(out: &mut Bytes, name: &str, v: Fx) -> Result<(), Memory>
+    ensures { OnOk result (out.new ≡ out.old ++ attribute name.now (length_text v)) }
+{
+    start_attribute(out, name)?;
+    put_length(out, v)?;
+    end_attribute(out)
+}
+
+/// The size of an animation, and the part of the plane that it shows.
+#[tactic(auto, unfolding(crate::specs::Svg::attribute, crate::specs::Svg::canvas_text))]
+fn put_canvas(out: &mut Bytes, c: &Canvas) -> Result<(), Memory>
+    ensures { OnOk result (out.new ≡ out.old ++ canvas_text c.now) }
+{
+    put_length_attribute(out, "width", c.w)?;
+    put_length_attribute(out, "height", c.h)?;
+    start_attribute(out, "viewBox")?;
+    put_view_box(out, c)?;
+    end_attribute(out)
+}
+
+/// The namespace of the standard.
+#[tactic(auto, unfolding(crate::specs::Svg::namespace_text))]
+fn put_namespace(out: &mut Bytes) -> Result<(), Memory>
+    ensures { OnOk result (out.new ≡ out.old ++ namespace_text) }
+{
+    put_attribute(out, "xmlns", "http://www.w3.org/2000/svg")
+}
+
+/// The version of the standard.
+#[tactic(auto, unfolding(crate::specs::Svg::version_text))]
+fn put_version(out: &mut Bytes) -> Result<(), Memory>
+    ensures { OnOk result (out.new ≡ out.old ++ version_text) }
+{
+    put_attribute(out, "version", "1.1")
+}
+
+/// The tag that opens the root element.
+#[tactic(auto, unfolding(crate::specs::Svg::head_text))]
+fn put_head(out: &mut Bytes, c: &Canvas) -> Result<(), Memory>
+    ensures { OnOk result (out.new ≡ out.old ++ head_text c.now) }
+{
+    start_tag(out, "svg")?;
+    put_namespace(out)?;
+    put_version(out)?;
+    put_canvas(out, c)?;
+    end_tag(out)
+}
+
+/// The SVG of the frame of a document at a time.
+pub fn draw_frame(alloc: Global, d: &Document, t: Time) -> Result<Bytes, Memory>
+    ensures { IfOk result (λ svg. svg ≡ svg_text d.now.canvas (frame_of d.now t)) }
+{
+    let mut out = Bytes::new(alloc);
+    put_head(&mut out, &d.canvas)?;
+    put_layers(&mut out, d.layers.items(), t)?;
+    put_close_tag(&mut out, "svg")?;
+    Ok(out)
+}

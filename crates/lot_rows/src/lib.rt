@@ -1,0 +1,15 @@
+//! Tests that cross the crates, over small folders and sinks whose calls can fail.
+#![tactic(auto)]
+
+#[cfg(test)]
+mod first_frame;
+#[cfg(test)]
+mod number_tokens;
+#[cfg(test)]
+mod one_file;
+#[cfg(test)]
+mod outside_fails;
+#[cfg(test)]
+mod short_sink;
+#[cfg(test)]
+mod syntax_offsets;

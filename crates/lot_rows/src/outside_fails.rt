@@ -1,0 +1,74 @@
+//! A read or a write that fails, at each call in turn, and documents at the limit of length.
+use crate::one_file::OneFile;
+use crate::short_sink::{ShortSink, run_on};
+use lot_play::Status;
+use lot_types::Memory;
+use std::alloc::Global;
+use std::test::Fail;
+
+const SOLID: &str =
+    "{\"w\":10,\"h\":10,\"fr\":30,\"ip\":0,\"op\":60,\"layers\":[{\"ty\":1,\"ip\":0,\"op\":60,\"ks\":{},\"sw\":10,\"sh\":10,\"sc\":\"#ff0000\"}]}";
+
+const SOLID_SVG: &str =
+    "<svg xmlns=\"http://www.w3.org/2000/svg\" version=\"1.1\" width=\"10\" height=\"10\" viewBox=\"0 0 10 10\">\n<g>\n<path fill=\"#ff0000\" d=\"M0 0L10 0L10 10L0 10Z\"/>\n</g>\n</svg>\n";
+
+/// The document has 112 bytes: twelve reads of at most ten bytes, and one that finds its end.
+#[test]
+fn each_failing_read_ends_the_run_with_no_bytes(rt: HostRuntime) -> Result<(), Fail> {
+    let alloc = rt.alloc();
+    assert_eq!(rt; SOLID.len(), 112);
+    for n in 1..14 {
+        let mut folder = OneFile::failing(SOLID.as_bytes(), 10, n);
+        let mut sink = ShortSink::new(alloc, 4096);
+        let ended = run_on(alloc, &["frame", "-", "0"], &mut folder, &mut sink)?;
+        assert_eq!(rt; ended, Status::ReadFault);
+        assert_eq!(rt; sink.writes, 0);
+    }
+    Ok(())
+}
+
+/// The frame has 163 bytes: five writes of at most forty bytes.
+#[test]
+fn each_failing_write_leaves_the_front_of_the_frame(rt: HostRuntime) -> Result<(), Fail> {
+    let alloc = rt.alloc();
+    for n in 1..6 {
+        let mut folder = OneFile::new(SOLID.as_bytes(), 4096);
+        let mut sink = ShortSink::failing(alloc, 40, n);
+        let ended = run_on(alloc, &["frame", "-", "0"], &mut folder, &mut sink)?;
+        assert_eq!(rt; ended, Status::WriteFault);
+        let taken = sink.taken.as_slice();
+        assert_eq!(rt; taken.len() as u64, 40 * (n - 1));
+        assert!(rt; SOLID_SVG.as_bytes().starts_with(taken));
+    }
+    Ok(())
+}
+
+/// Runs the program on a document of so many spaces.
+fn run_on_spaces(
+    alloc: Global,
+    spaces: usize,
+    piece: usize,
+    sink: &mut ShortSink,
+) -> Result<Status, Memory> {
+    let mut document = Vec::new(alloc);
+    document.resize(spaces, b' ')?;
+    let mut folder = OneFile::new(document.as_slice(), piece);
+    run_on(alloc, &["frame", "-", "0"], &mut folder, sink)
+}
+
+#[test]
+fn a_document_may_have_so_many_bytes_and_no_more(rt: HostRuntime) -> Result<(), Fail> {
+    let alloc = rt.alloc();
+    let mut sink = ShortSink::new(alloc, 4096);
+    assert_eq!(rt;
+        run_on_spaces(alloc, 16_777_217, 65536, &mut sink)?,
+        Status::TooLong
+    );
+    assert_eq!(rt; sink.writes, 0);
+    assert_eq!(rt;
+        run_on_spaces(alloc, 16_777_216, 1_000_000, &mut sink)?,
+        Status::Refused
+    );
+    assert!(rt; sink.taken.as_slice() == "syntax 16777216\n".as_bytes());
+    Ok(())
+}

@@ -1,0 +1,54 @@
+ghost use Rattle.std.specs.Prelude.{◌≡◌, ◌↔◌, IsSome, IfSome};
+ghost use Rattle.lot_types.specs.Range.{InRange};
+
+use std::marker::Model;
+
+/// A number in millionths: of a pixel, of a degree, of a per cent, or of one. It is from -10^13 to 10^13, that is
+/// from minus ten million to ten million.
+#[derive(Clone, Copy, Debug, PartialEq, Eq)]
+pub struct Fx {
+    raw: i64,
+}
+
+impl Model for Fx {
+    ghost use Rattle.std.specs.Prelude.{ℤ};
+    ghost use Rattle.lot_types.specs.Range.{InRange};
+
+    ghost Value = { ℤ };
+
+    ghost view = { λ x. x.raw };
+
+    ghost invariant = { λ x. InRange x.raw };
+
+    ghost inverse = { λ z. record { raw = z } };
+}
+
+impl Fx {
+    /// The number 0.
+    pub const ZERO: Fx = Fx { raw: 0 };
+
+    /// The number 1.
+    pub const ONE: Fx = Fx { raw: 1_000_000 };
+
+    /// The number of this many millionths. `None` exactly where it is out of range.
+    pub fn new(v: i64) -> Option<Fx>
+        ensures some { IsSome result ↔ InRange v }
+        ensures value { IfSome result (λ x. x ≡ v) }
+    {
+        if v.unsigned_abs() <= LARGEST {
+            Some(Fx { raw: v })
+        } else {
+            None
+        }
+    }
+
+    /// How many millionths.
+    pub fn get(self) -> i64
+        ensures value { result ≡ self }
+        ensures range { InRange result }
+    {
+        self.raw
+    }
+}
+
+const LARGEST: u64 = 10_000_000_000_000;

@@ -1,0 +1,68 @@
+ghost use Rattle.std.specs.Prelude.{◌≡◌, [], ◌∷◌, ◌++◌, MatchOption, OnOk, OnErr};
+
+use crate::{Duplicate, Memory};
+use std::alloc::Global;
+use std::marker::Model;
+
+/// A list that keeps its allocator. Contracts see it as the list of its items, so that a copy equals what it copies.
+#[derive(Drop)]
+pub struct Seq<T> {
+    items: Vec<T>,
+}
+
+impl<T> Model for Seq<T> {
+    ghost use Rattle.std.specs.Prelude.{List};
+    ghost use Rattle.std.specs.Coded.{coded_list};
+
+    ghost Value = { List T };
+
+    ghost coded = { coded_list T.code };
+
+    ghost view = { λ it. it.items.items };
+}
+
+impl<T> Seq<T> {
+    /// The empty list. It takes no memory.
+    pub fn new(alloc: Global) -> Seq<T>
+        ensures { result ≡ [] }
+    {
+        Seq {
+            items: Vec::new(alloc),
+        }
+    }
+
+    /// Lends the items in order.
+    pub fn items(&self) -> &[T]
+        ensures { result.now ≡ self.now }
+    {
+        self.items.as_slice()
+    }
+
+    /// Takes the last item away, if there is one.
+    pub fn pop(&mut self) -> Option<T>
+        ensures { MatchOption result ((self.old ≡ []) × (self.new ≡ [])) (λ last. self.old ≡ self.new ++ last ∷ []) }
+    {
+        self.items.pop()
+    }
+}
+
+impl<T: Drop> Seq<T> {
+    /// Puts an item at the end. Where there is no memory the list stays as it was and the item is dropped.
+    pub fn push(&mut self, x: T) -> Result<(), Memory>
+        ensures ok { OnOk result (self.new ≡ self.old ++ x ∷ []) }
+        ensures err { OnErr result (self.new ≡ self.old) }
+    {
+        self.items.push(x)?;
+        Ok(())
+    }
+}
+
+impl<T: Duplicate> Duplicate for Seq<T> {
+    fn copy(&self) -> Result<Seq<T>, Memory> {
+        let mut made = Seq::new(*self.items.allocator());
+        for x in self.items() {
+            made.push(x.copy()?)?;
+        }
+        Ok(made)
+    }
+}

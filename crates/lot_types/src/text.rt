@@ -1,0 +1,61 @@
+ghost use Rattle.std.specs.Prelude.{◌≡◌, [], ◌∷◌, ◌++◌, IfOk, OnOk, OnErr, encode_utf8};
+
+use crate::{Duplicate, Memory};
+use std::alloc::Global;
+use std::marker::Model;
+
+/// A text in UTF-8 that keeps its allocator. Contracts see it as the list of its bytes.
+#[derive(Drop)]
+pub struct Text {
+    text: String,
+}
+
+impl Model for Text {
+    ghost use Rattle.std.specs.Prelude.{List, ℕ, string_bytes};
+
+    ghost Value = { List ℕ };
+
+    ghost view = { λ t. string_bytes t.text };
+}
+
+impl Text {
+    /// The empty text. It takes no memory.
+    pub fn new(alloc: Global) -> Text
+        ensures { result ≡ [] }
+    {
+        Text {
+            text: String::new(alloc),
+        }
+    }
+
+    /// A copy of a text.
+    pub fn of(alloc: Global, s: &str) -> Result<Text, Memory>
+        ensures { IfOk result (λ made. made ≡ s.now) }
+    {
+        let text = String::from_str(alloc, s)?;
+        Ok(Text { text })
+    }
+
+    /// Puts a character at the end. Where there is no memory the text stays as it was.
+    pub fn push(&mut self, c: char) -> Result<(), Memory>
+        ensures ok { OnOk result (self.new ≡ self.old ++ encode_utf8 c) }
+        ensures err { OnErr result (self.new ≡ self.old) }
+    {
+        self.text.push(c)?;
+        Ok(())
+    }
+
+    /// Lends the text.
+    pub fn as_str(&self) -> &str
+        ensures { result.now ≡ self.now }
+    {
+        self.text.as_str()
+    }
+}
+
+impl Duplicate for Text {
+    fn copy(&self) -> Result<Text, Memory> {
+        let text = self.text.clone()?;
+        Ok(Text { text })
+    }
+}

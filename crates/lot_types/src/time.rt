@@ -1,0 +1,48 @@
+ghost use Rattle.std.specs.Prelude.{◌≡◌, ◌↔◌, IsSome, IfSome};
+ghost use Rattle.lot_types.specs.Range.{InRange};
+
+use std::marker::Model;
+
+/// A moment of an animation in millionths of a frame. It is from -10^13 to 10^13, that is from minus ten million
+/// frames to ten million frames.
+#[derive(Clone, Copy)]
+pub struct Time {
+    raw: i64,
+}
+
+impl Model for Time {
+    ghost use Rattle.std.specs.Prelude.{ℤ};
+    ghost use Rattle.lot_types.specs.Range.{InRange};
+
+    ghost Value = { ℤ };
+
+    ghost view = { λ x. x.raw };
+
+    ghost invariant = { λ x. InRange x.raw };
+
+    ghost inverse = { λ z. record { raw = z } };
+}
+
+impl Time {
+    /// The moment at this many millionths of a frame. `None` exactly where it is out of range.
+    pub fn new(v: i64) -> Option<Time>
+        ensures some { IsSome result ↔ InRange v }
+        ensures value { IfSome result (λ x. x ≡ v) }
+    {
+        if v.unsigned_abs() <= LARGEST {
+            Some(Time { raw: v })
+        } else {
+            None
+        }
+    }
+
+    /// How many millionths of a frame.
+    pub fn get(self) -> i64
+        ensures value { result ≡ self }
+        ensures range { InRange result }
+    {
+        self.raw
+    }
+}
+
+const LARGEST: u64 = 10_000_000_000_000;
