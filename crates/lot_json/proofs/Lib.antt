@@ -29,3 +29,4 @@ pub mod SameNumber
 pub mod SameCharacters
 pub mod ValueFronts
 pub mod SameTree
+pub mod PointerEscapes

@@ -14,3 +14,4 @@ pub mod Word
 pub mod Residual
 pub mod Refusal
 pub mod Stands
+pub mod Pointer

@@ -1,7 +1,7 @@
 -- How a run ends, from how its parts end.
 use Rattle.std.proofs.Common.{◌≡◌, ℕ, ◌<◌, List, [], length, Option, Some, sym, refl, ap, ◌∙◌, subst, arith}
 use Rattle.std.proofs.lemmas.List.{append-nil}
-use Rattle.lot_json.specs.declared.number.Number.{Number}
+use Rattle.lot_play.specs.declared.command.Task.{Task}
 use Rattle.lot_play.specs.declared.status.Status.{Status}
 use Rattle.lot_play.specs.declared.status.Status.TheVariants.{Done, Refused, Usage, ReadFault, WriteFault, Memory, TooLong}
 use Rattle.lot_play.specs.Outside.{Told, Rose, RoseAbove, Adds, AddsPrefix}
@@ -16,9 +16,9 @@ adds_none held h told = told ∙ ap (λ (z : List ℕ). Some z) (sym (append-nil
 adds_front : (held : Option (List ℕ)) (bytes : List ℕ) → AddsPrefix held held bytes
 adds_front held bytes = (0, omega arith, adds_none held)
 
-pub ends_read_fault : (told : Option (List ℕ)) (time : Number) (held : Option (List ℕ)) (faults faulted given gave failures failed : ℕ) → Rose faults faulted
-    → Ends told time held held faults faulted given gave failures failed ReadFault
-ends_read_fault told time held faults faulted given gave failures failed rose = record {
+pub ends_read_fault : (told : Option (List ℕ)) (task : Task) (held : Option (List ℕ)) (faults faulted given gave failures failed : ℕ) → Rose faults faulted
+    → Ends told task held held faults faulted given gave failures failed ReadFault
+ends_read_fault told task held faults faulted given gave failures failed rose = record {
   whole = λ w. absurd w;
   short = λ s content t bytes status a. adds_front held bytes;
   silent = λ s. adds_none held;
@@ -27,9 +27,9 @@ ends_read_fault told time held faults faulted given gave failures failed rose = 
   too_long = λ e. absurd cc;
 }
 
-pub ends_without_memory : (told : Option (List ℕ)) (time : Number) (held : Option (List ℕ)) (faults faulted given gave failures failed : ℕ)
-    → Ends told time held held faults faulted given gave failures failed Memory
-ends_without_memory told time held faults faulted given gave failures failed = record {
+pub ends_without_memory : (told : Option (List ℕ)) (task : Task) (held : Option (List ℕ)) (faults faulted given gave failures failed : ℕ)
+    → Ends told task held held faults faulted given gave failures failed Memory
+ends_without_memory told task held faults faulted given gave failures failed = record {
   whole = λ w. absurd w;
   short = λ s content t bytes status a. adds_front held bytes;
   silent = λ s. adds_none held;
@@ -38,11 +38,11 @@ ends_without_memory told time held faults faulted given gave failures failed = r
   too_long = λ e. absurd cc;
 }
 
-pub ends_too_long : (told : Option (List ℕ)) (time : Number) (held : Option (List ℕ)) (faults faulted given gave failures failed : ℕ)
+pub ends_too_long : (told : Option (List ℕ)) (task : Task) (held : Option (List ℕ)) (faults faulted given gave failures failed : ℕ)
     → ((content : List ℕ) → Told told content → most < length content) → RoseAbove most given gave
-    → Ends told time held held faults faulted given gave failures failed TooLong
-ends_too_long told time held faults faulted given gave failures failed long rose = record {
-  whole = λ w content t. ([], long_answer content time (long content t), adds_none held);
+    → Ends told task held held faults faulted given gave failures failed TooLong
+ends_too_long told task held faults faulted given gave failures failed long rose = record {
+  whole = λ w content t. ([], long_answer content task (long content t), adds_none held);
   short = λ s. absurd s;
   silent = λ s. adds_none held;
   read_fault = λ e. absurd cc;
@@ -74,11 +74,11 @@ silent_verdict WriteFault v h = absurd v
 silent_verdict Memory v h = absurd v
 silent_verdict TooLong v h = absurd v
 
-module _ (told : Option (List ℕ)) (time : Number) (content bytes : List ℕ) (status : Status) (held now : Option (List ℕ)) (faults faulted given gave failures failed : ℕ)
-    (is : (c : List ℕ) → Told told c → content ≡ c) (the : IsTheAnswer content time bytes status) where
-  ends_whole : IsVerdict status → (status ≡ Usage → bytes ≡ []) → Adds held now bytes → Ends told time held now faults faulted given gave failures failed status
+module _ (told : Option (List ℕ)) (task : Task) (content bytes : List ℕ) (status : Status) (held now : Option (List ℕ)) (faults faulted given gave failures failed : ℕ)
+    (is : (c : List ℕ) → Told told c → content ≡ c) (the : IsTheAnswer content task bytes status) where
+  ends_whole : IsVerdict status → (status ≡ Usage → bytes ≡ []) → Adds held now bytes → Ends told task held now faults faulted given gave failures failed status
   ends_whole verdict quiet adds = record {
-    whole = λ w c t. (bytes, subst (λ (z : List ℕ). IsTheAnswer z time bytes status) (is c t) the, adds);
+    whole = λ w c t. (bytes, subst (λ (z : List ℕ). IsTheAnswer z task bytes status) (is c t) the, adds);
     short = λ s. absurd (verdict_not_short status verdict s);
     silent = λ s. silent_adds held now bytes (quiet (silent_verdict status verdict s)) adds;
     read_fault = λ e. absurd (subst (λ (z : Status). IsVerdict z) e verdict);
@@ -86,10 +86,10 @@ module _ (told : Option (List ℕ)) (time : Number) (content bytes : List ℕ) (
     too_long = λ e. absurd (subst (λ (z : Status). IsVerdict z) e verdict);
   }
 
-  front_answer : AddsPrefix held now bytes → (c : List ℕ) → Told told c → (b : List ℕ) (s : Status) → Answers c time b s → AddsPrefix held now b
-  front_answer front c t b s a = front_of held now b bytes (the.only_bytes b s (subst (λ (z : List ℕ). Answers z time b s) (sym (is c t)) a)) front
+  front_answer : AddsPrefix held now bytes → (c : List ℕ) → Told told c → (b : List ℕ) (s : Status) → Answers c task b s → AddsPrefix held now b
+  front_answer front c t b s a = front_of held now b bytes (the.only_bytes b s (subst (λ (z : List ℕ). Answers z task b s) (sym (is c t)) a)) front
 
-  ends_write_fault : Rose failures failed → AddsPrefix held now bytes → Ends told time held now faults faulted given gave failures failed WriteFault
+  ends_write_fault : Rose failures failed → AddsPrefix held now bytes → Ends told task held now faults faulted given gave failures failed WriteFault
   ends_write_fault rose front = record {
     whole = λ w. absurd w;
     short = λ s. front_answer front;
@@ -99,7 +99,7 @@ module _ (told : Option (List ℕ)) (time : Number) (content bytes : List ℕ) (
     too_long = λ e. absurd cc;
   }
 
-  ends_write_memory : AddsPrefix held now bytes → Ends told time held now faults faulted given gave failures failed Memory
+  ends_write_memory : AddsPrefix held now bytes → Ends told task held now faults faulted given gave failures failed Memory
   ends_write_memory front = record {
     whole = λ w. absurd w;
     short = λ s. front_answer front;
@@ -110,7 +110,7 @@ module _ (told : Option (List ℕ)) (time : Number) (content bytes : List ℕ) (
   }
 
   pub ends_written : (r : Status) → IsVerdict status → (status ≡ Usage → bytes ≡ []) → Writes bytes status held now failures failed r
-      → Ends told time held now faults faulted given gave failures failed r
-  ends_written r verdict quiet (all_written e adds) = subst (λ (z : Status). Ends told time held now faults faulted given gave failures failed z) (sym e) (ends_whole verdict quiet adds)
-  ends_written r verdict quiet (write_refused e rose front) = subst (λ (z : Status). Ends told time held now faults faulted given gave failures failed z) (sym e) (ends_write_fault rose front)
-  ends_written r verdict quiet (write_without_memory e front) = subst (λ (z : Status). Ends told time held now faults faulted given gave failures failed z) (sym e) (ends_write_memory front)
+      → Ends told task held now faults faulted given gave failures failed r
+  ends_written r verdict quiet (all_written e adds) = subst (λ (z : Status). Ends told task held now faults faulted given gave failures failed z) (sym e) (ends_whole verdict quiet adds)
+  ends_written r verdict quiet (write_refused e rose front) = subst (λ (z : Status). Ends told task held now faults faulted given gave failures failed z) (sym e) (ends_write_fault rose front)
+  ends_written r verdict quiet (write_without_memory e front) = subst (λ (z : Status). Ends told task held now faults faulted given gave failures failed z) (sym e) (ends_write_memory front)

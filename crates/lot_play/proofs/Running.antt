@@ -1,29 +1,29 @@
 -- How a run on words ends, from how it ends on the content that they name.
 use Rattle.std.proofs.Common.{◌≡◌, ◌⊎◌, ℕ, List, [], Option, sym, refl, subst, inl, inr}
-use Rattle.lot_json.specs.declared.number.Number.{Number}
+use Rattle.lot_play.specs.declared.command.Task.{Task}
 use Rattle.lot_play.specs.declared.status.Status.{Status}
 use Rattle.lot_play.specs.declared.status.Status.TheVariants.{Done, Refused, Usage, ReadFault, WriteFault, Memory, TooLong}
-use Rattle.lot_play.specs.Command.{IsTheFrame}
+use Rattle.lot_play.specs.Command.{IsTheRequest}
 use Rattle.lot_play.specs.Outside.{Told, Rose, Adds, AddsPrefix}
-use Rattle.lot_play.specs.Output.{IsMisused, IsTold, IsWhole, IsShort, Answers, Output, on_misuse, on_frame}
+use Rattle.lot_play.specs.Output.{IsMisused, IsTold, IsWhole, IsShort, Answers, Output, on_misuse, on_request}
 use Rattle.lot_play.specs.Judged.{Ends}
 
 -- What the output on words says of the one content that they name.
-record Named (told : List ℕ → Option (List ℕ)) (name : List ℕ) (time : Number) (bytes : List ℕ) (status : Status) : Type 0 where
+record Named (told : List ℕ → Option (List ℕ)) (name : List ℕ) (task : Task) (bytes : List ℕ) (status : Status) : Type 0 where
   content : List ℕ
   is_told : Told (told name) content
-  answers : Answers content time bytes status
+  answers : Answers content task bytes status
 
-module _ (told : List ℕ → Option (List ℕ)) (words : List (List ℕ)) (name : List ℕ) (time : Number) (the : IsTheFrame words name time) where
-  named : (bytes : List ℕ) (status : Status) → Output told words bytes status → Named told name time bytes status
-  named bytes status (on_misuse none eb es) = absurd (none name time the.is)
-  named bytes status (on_frame n t content is h a) = record {
+module _ (told : List ℕ → Option (List ℕ)) (words : List (List ℕ)) (name : List ℕ) (task : Task) (the : IsTheRequest words name task) where
+  named : (bytes : List ℕ) (status : Status) → Output told words bytes status → Named told name task bytes status
+  named bytes status (on_misuse none eb es) = absurd (none name task the.is)
+  named bytes status (on_request n t content is h a) = record {
     content = content;
     is_told = subst (λ (z : List ℕ). Told (told z) content) (the.only_name n t is) h;
-    answers = subst (λ (z : Number). Answers content z bytes status) (the.only_time n t is) a;
+    answers = subst (λ (z : Task). Answers content z bytes status) (the.only_task n t is) a;
   }
 
-  module _ (held now : Option (List ℕ)) (faults faulted given gave failures failed : ℕ) (r : Status) (ends : Ends (told name) time held now faults faulted given gave failures failed r) where
+  module _ (held now : Option (List ℕ)) (faults faulted given gave failures failed : ℕ) (r : Status) (ends : Ends (told name) task held now faults faulted given gave failures failed r) where
     pub run_defined : IsWhole r → (bytes : List ℕ) (status : Status) → Output told words bytes status → (r ≡ status) × Adds held now bytes
     run_defined whole bytes status o =
         let n = named bytes status o in
@@ -32,9 +32,9 @@ module _ (told : List ℕ → Option (List ℕ)) (words : List (List ℕ)) (name
 
     pub run_exists : IsWhole r → IsTold told words → (bytes : List ℕ) × Output told words bytes r
     run_exists whole h =
-        let c = h name time the.is in
+        let c = h name task the.is in
         let w = ends.whole whole c.0 c.1 in
-        (w.0, on_frame name time c.0 the.is c.1 w.1.is)
+        (w.0, on_request name task c.0 the.is c.1 w.1.is)
 
     pub run_front : IsShort r → (bytes : List ℕ) (status : Status) → Output told words bytes status → AddsPrefix held now bytes
     run_front short bytes status o = let n = named bytes status o in ends.short short n.content n.is_told bytes status n.answers
@@ -48,11 +48,11 @@ whole_or WriteFault P Q p q np nq = absurd (nq (q refl))
 whole_or Memory P Q p q np nq = inr refl
 whole_or TooLong P Q p q np nq = inl tt
 
-pub run_complete : (told : Option (List ℕ)) (time : Number) (held now : Option (List ℕ)) (faults faulted given gave failures failed : ℕ) (r : Status) → Ends told time held now faults faulted given gave failures failed r
+pub run_complete : (told : Option (List ℕ)) (task : Task) (held now : Option (List ℕ)) (faults faulted given gave failures failed : ℕ) (r : Status) → Ends told task held now faults faulted given gave failures failed r
     → (Rose faults faulted → ⊥) → (Rose failures failed → ⊥) → IsWhole r ⊎ (r ≡ Memory)
-run_complete told time held now faults faulted given gave failures failed r ends = whole_or r (Rose faults faulted) (Rose failures failed) ends.read_fault ends.write_fault
+run_complete told task held now faults faulted given gave failures failed r ends = whole_or r (Rose faults faulted) (Rose failures failed) ends.read_fault ends.write_fault
 
 -- Words that are no command.
 pub misuse_defined : (told : List ℕ → Option (List ℕ)) (words : List (List ℕ)) → IsMisused words → (bytes : List ℕ) (status : Status) → Output told words bytes status → (bytes ≡ []) × (status ≡ Usage)
 misuse_defined told words none bytes status (on_misuse n eb es) = (eb, es)
-misuse_defined told words none bytes status (on_frame n t content is h a) = absurd (none n t is)
+misuse_defined told words none bytes status (on_request n t content is h a) = absurd (none n t is)

@@ -1,10 +1,10 @@
--- The one command that words are.
+-- The one request that words are.
 use Rattle.std.specs.Prelude.{◌≡◌, ℕ, List}
-use Rattle.lot_json.specs.declared.number.Number.{Number}
-use Rattle.lot_play.specs.Output.{IsFrame}
+use Rattle.lot_play.specs.declared.command.Task.{Task}
+use Rattle.lot_play.specs.Output.{Asks}
 
--- The words name this document and this time, and no other.
-pub record IsTheFrame (words : List (List ℕ)) (name : List ℕ) (time : Number) : Type 0 where
-  pub is : IsFrame words name time
-  pub only_name : (n : List ℕ) (t : Number) → IsFrame words n t → n ≡ name
-  pub only_time : (n : List ℕ) (t : Number) → IsFrame words n t → t ≡ time
+-- The words ask for this task on this document, and for no other.
+pub record IsTheRequest (words : List (List ℕ)) (name : List ℕ) (task : Task) : Type 0 where
+  pub is : Asks words name task
+  pub only_name : (n : List ℕ) (t : Task) → Asks words n t → n ≡ name
+  pub only_task : (n : List ℕ) (t : Task) → Asks words n t → t ≡ task

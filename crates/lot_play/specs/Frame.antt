@@ -1,5 +1,5 @@
 -- A frame of an animation: what it shows at one time, evaluated from scratch. After the Lottie Specification 1.0.
-use Rattle.std.specs.Prelude.{ℤ, pos, ◌^◌, Bool, ◌&&◌, int_le, int_lt, List, map, filter, reverse}
+use Rattle.std.specs.Prelude.{ℤ, pos, ◌^◌, Bool, ◌&&◌, not, int_le, int_lt, List, map, filter, reverse}
 use Rattle.lot_types.specs.declared.point.Point.{Point}
 use Rattle.lot_types.specs.declared.rgb.Rgb.{Rgb}
 use Rattle.lot_types.specs.declared.matrix.Matrix.{Matrix}
@@ -17,9 +17,9 @@ pub record Node : Type 0 where
 abbrev pub move_by : Point → Matrix
 move_by p = record { a = pos (10 ^ 6); b = pos 0; c = pos 0; d = pos (10 ^ 6); e = p.x; f = p.y }
 
--- A layer is visible from its first moment to before its last.
+-- A layer that is not hidden is visible from its first moment to before its last.
 abbrev pub is_visible : ℤ → SolidLayer → Bool
-is_visible t layer = int_le layer.ip t && int_lt t layer.op
+is_visible t layer = not layer.hidden && int_le layer.ip t && int_lt t layer.op
 
 abbrev pub node : SolidLayer → Node
 node layer = record { matrix = move_by layer.position; rgb = layer.rgb; w = layer.w; h = layer.h }

@@ -1,6 +1,6 @@
 pub mod Outside
 pub mod Entries
-pub mod Form
+pub mod Table
 pub mod Frame
 pub mod Svg
 pub mod Output

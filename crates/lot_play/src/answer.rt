@@ -1,15 +1,18 @@
 //! What is answered on a document's content.
 ghost use Rattle.std.specs.Prelude.{◌≡◌, ◌≤◌, [], IfOk, length};
 ghost use Rattle.lot_play.specs.declared.status.Status.TheVariants.{Usage, Refused};
-ghost use Rattle.lot_play.specs.Judged.{IsTheAnswer, IsVerdict};
-ghost use Rattle.lot_play.specs.Output.{IsReply, moment as moment_in, frame_reply, tree_reply, syntax_line as syntax_text, most};
+ghost use Rattle.lot_read.specs.Outcome.{Answers as Reads};
+ghost use Rattle.lot_play.specs.Table.{document};
+ghost use Rattle.lot_play.specs.Output.{IsReply, moment as moment_in, moment_reply, task_reply, fault_line as fault_text, syntax_line as syntax_text, most};
+ghost use Rattle.lot_play.specs.Judged.{AnswersTree, IsTheAnswer, IsVerdict};
 
+use crate::command::Task;
 use crate::document::canvas::Canvas;
 use crate::document::{Document, read_document};
 use crate::status::Status;
 use crate::svg::draw_frame;
 use lot_json::{Json, JsonRefusal, Number, parse};
-use lot_types::{Bytes, Memory, Time};
+use lot_types::{Bytes, Fault, Memory, Refusal, Time};
 use std::alloc::Global;
 
 /// What is written, and the status behind it.
@@ -30,9 +33,8 @@ fn moment(c: &Canvas, time: Number) -> Option<Time>
 }
 
 /// The SVG of a document at a time, or nothing where it does not run.
-#[tactic(auto, unfolding(crate::specs::Output::frame_reply))]
 fn answer_frame(alloc: Global, d: &Document, time: Number) -> Result<Answer, Memory>
-    ensures { IfOk result (IsReply (frame_reply d.now time)) }
+    ensures { IfOk result (IsReply (moment_reply d.now (moment_in d.now.canvas time))) }
 {
     match moment(&d.canvas, time) {
         Some(t) => Ok(Answer {
@@ -46,12 +48,37 @@ fn answer_frame(alloc: Global, d: &Document, time: Number) -> Result<Answer, Mem
     }
 }
 
-/// A line that refuses a document.
-fn refuse(alloc: Global, line: &str) -> Result<Answer, Memory>
-    ensures { IfOk result (IsReply (line.now, Refused)) }
+/// A line and the status behind it.
+fn answer_line(alloc: Global, line: &str, status: Status) -> Result<Answer, Memory>
+    ensures { IfOk result (IsReply (line.now, status)) }
 {
     let mut bytes = Bytes::new(alloc);
     bytes.append(line.as_bytes())?;
+    Ok(Answer { bytes, status })
+}
+
+/// What a task gives on an accepted document.
+#[tactic(auto, unfolding(crate::specs::Output::task_reply))]
+fn answer_task(alloc: Global, d: &Document, task: Task) -> Result<Answer, Memory>
+    ensures { IfOk result (IsReply (task_reply d.now task)) }
+{
+    match task {
+        Task::Check => answer_line(alloc, "ok\n", Status::Done),
+        Task::Frame(time) => answer_frame(alloc, d, time),
+    }
+}
+
+/// The line for the first fault of a document.
+#[tactic(auto, unfolding(crate::specs::Output::fault_line))]
+fn answer_fault(alloc: Global, fault: &Fault) -> Result<Answer, Memory>
+    ensures { IfOk result (IsReply (fault_text fault.now, Refused)) }
+{
+    let mut bytes = Bytes::new(alloc);
+    bytes.append(b"fault ".as_slice())?;
+    bytes.append(fault.code.name().as_bytes())?;
+    bytes.append(b" ".as_slice())?;
+    bytes.append(fault.pointer.as_str().as_bytes())?;
+    bytes.append(b"\n".as_slice())?;
     Ok(Answer {
         bytes,
         status: Status::Refused,
@@ -59,13 +86,13 @@ fn refuse(alloc: Global, line: &str) -> Result<Answer, Memory>
 }
 
 /// The answer on a tree.
-#[tactic(auto, unfolding(crate::specs::Output::tree_reply))]
-fn answer_tree(alloc: Global, j: &Json, time: Number) -> Result<Answer, Memory>
-    ensures { IfOk result (IsReply (tree_reply j.now time)) }
+fn answer_tree(alloc: Global, j: &Json, task: Task) -> Result<Answer, Memory>
+    ensures { IfOk result (λ a. AnswersTree j.now task a.bytes a.status) }
 {
-    match read_document(alloc, j)? {
-        Some(d) => answer_frame(alloc, &d, time),
-        None => refuse(alloc, "unbuilt\n"),
+    match read_document(alloc, j) {
+        Ok(d) => answer_task(alloc, &d, task),
+        Err(Refusal::Fault(fault)) => answer_fault(alloc, &fault),
+        Err(Refusal::Memory) => Err(Memory),
     }
 }
 
@@ -75,18 +102,18 @@ fn answer_syntax(alloc: Global, offset: u64) -> Result<Answer, Memory>
     ensures { IfOk result (IsReply (syntax_text offset, Refused)) }
 {
     let line = format!(in alloc; "syntax {offset}\n")?;
-    refuse(alloc, line.as_str())
+    answer_line(alloc, line.as_str(), Status::Refused)
 }
 
 /// The answer on a content that is not too long.
-pub fn answer_content(alloc: Global, content: &[u8], time: Number) -> Result<Answer, Memory>
+pub fn answer_content(alloc: Global, content: &[u8], task: Task) -> Result<Answer, Memory>
     requires { length content.now ≤ most }
-    ensures answer { IfOk result (λ a. IsTheAnswer content.now time a.bytes a.status) }
+    ensures answer { IfOk result (λ a. IsTheAnswer content.now task a.bytes a.status) }
     ensures verdict { IfOk result (λ a. IsVerdict a.status) }
     ensures silent { IfOk result (λ a. a.status ≡ Usage → a.bytes ≡ []) }
 {
     match parse(alloc, content) {
-        Ok(j) => answer_tree(alloc, &j, time),
+        Ok(j) => answer_tree(alloc, &j, task),
         Err(JsonRefusal::Syntax(offset)) => answer_syntax(alloc, offset),
         Err(JsonRefusal::Memory) => Err(Memory),
     }

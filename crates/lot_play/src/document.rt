@@ -1,13 +1,15 @@
-//! A document of the form that is built: an animation of solid layers that stand still.
+//! A document: an animation of solid layers that stand still.
 pub mod canvas;
 mod colour;
-mod members;
-mod reader;
+mod feature;
+mod layer;
+mod root;
 pub mod solid;
+mod transform;
 
 use canvas::Canvas;
 use lot_types::Seq;
-pub use reader::read_document;
+pub use root::read_document;
 use solid::SolidLayer;
 
 /// An animation: its canvas, and its layers, of which the first lies on top.

@@ -1,19 +1,18 @@
 //! The top call.
 ghost use Rattle.std.specs.Prelude.{◌≡◌, ◌≤◌, ◌⊎◌, ℕ, List, []};
-ghost use Rattle.lot_json.specs.declared.number.Number.{Number};
+ghost use Rattle.lot_play.specs.declared.command.Task.{Task};
 ghost use Rattle.lot_play.specs.declared.status.Status.{Status};
 ghost use Rattle.lot_play.specs.declared.status.Status.TheVariants as status;
 ghost use Rattle.lot_play.specs.Judged.{Writes, Ends};
 ghost use Rattle.lot_play.specs.Outside.{Rose, RoseAbove, SameTold, Adds, AddsPrefix};
-ghost use Rattle.lot_play.specs.Output.{IsFrame, IsMisused, IsTold, IsWhole, IsShort, IsSilent, Output, most};
+ghost use Rattle.lot_play.specs.Output.{Asks, IsMisused, IsTold, IsWhole, IsShort, IsSilent, Output, most};
 
 use crate::answer::{Answer, answer_content};
-use crate::command::frame_command;
+use crate::command::{Task, request_of};
 use crate::outside::{Folder, Sink, SinkRefusal};
 use crate::reading::{ReadRefusal, read_all};
 use crate::status::Status;
 use crate::writing::write_all;
-use lot_json::Number;
 use lot_types::{Seq, Steps, Text};
 use std::alloc::Global;
 use std::sync::ledger::Ledger;
@@ -30,16 +29,16 @@ fn write_answer<K: Sink>(out: &mut K, answer: &Answer) -> Status
     }
 }
 
-/// Runs `frame DOC TIME`.
-fn run_frame<F: Folder, K: Sink>(
+/// Runs a task on a document.
+fn run_task<F: Folder, K: Sink>(
     alloc: Global,
     document: &str,
-    time: Number,
+    task: Task,
     folder: &mut F,
     out: &mut K,
 ) -> Status
     requires { F.serves folder.old document.now }
-    ensures ends { Ends (F.told folder.old document.now) time (K.held out.old) (K.held out.new) (F.faults folder.old) (F.faults folder.new)
+    ensures ends { Ends (F.told folder.old document.now) task (K.held out.old) (K.held out.new) (F.faults folder.old) (F.faults folder.new)
         (F.given folder.old) (F.given folder.new) (K.faults out.old) (K.faults out.new) result }
     ensures told { SameTold (F.told folder.old) (F.told folder.new) }
 {
@@ -49,7 +48,7 @@ fn run_frame<F: Folder, K: Sink>(
         Err(ReadRefusal::TooLong) => return Status::TooLong,
         Err(ReadRefusal::Memory) => return Status::Memory,
     };
-    match answer_content(alloc, content.as_slice(), time) {
+    match answer_content(alloc, content.as_slice(), task) {
         Ok(answer) => write_answer(out, &answer),
         Err(_) => Status::Memory,
     }
@@ -57,8 +56,9 @@ fn run_frame<F: Folder, K: Sink>(
 
 /// Runs the program on the words behind its name, and answers how it ended.
 ///
-/// The words `frame DOC TIME` write the frame of the document `DOC` at `TIME`, in frames, as SVG. Every other list of
-/// words is no command. The folder has to serve the name `DOC`. No evaluation is counted.
+/// The words `check DOC` say whether the document `DOC` is accepted, and `frame DOC TIME` write its frame at `TIME`, in
+/// frames, as SVG. Every other list of words is no command. The folder has to serve the name `DOC`. No evaluation is
+/// counted.
 pub fn run<F: Folder, K: Sink, L: Ledger>(
     alloc: Global,
     words: &Seq<Text>,
@@ -66,7 +66,7 @@ pub fn run<F: Folder, K: Sink, L: Ledger>(
     out: &mut K,
     steps: &mut Steps<L>,
 ) -> Status
-    requires serves { (name : List ℕ) (time : Number) → IsFrame words.now name time → F.serves folder.old name }
+    requires serves { (name : List ℕ) (task : Task) → Asks words.now name task → F.serves folder.old name }
 
     // A run that ends has written the defined bytes, answered the defined status, and no others.
     ensures defined { IsWhole result → (bytes : List ℕ) (status : Status) → Output (F.told folder.old) words.now bytes status
@@ -90,8 +90,8 @@ pub fn run<F: Folder, K: Sink, L: Ledger>(
     ensures told { SameTold (F.told folder.old) (F.told folder.new) }
     ensures uncounted { steps.new ≡ steps.old }
 {
-    match frame_command(words) {
-        Some(command) => run_frame(alloc, command.document, command.time, folder, out),
+    match request_of(words) {
+        Some(request) => run_task(alloc, request.document, request.task, folder, out),
         None => Status::Usage,
     }
 }

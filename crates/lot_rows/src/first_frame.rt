@@ -60,7 +60,14 @@ fn frames_are_the_defined_bytes(rt: HostRuntime) -> Result<(), Fail> {
 #[test]
 fn other_documents_and_times_are_refused(rt: HostRuntime) -> Result<(), Fail> {
     let alloc = rt.alloc();
-    expect(&rt, alloc, WITH_ASSETS, "0", Status::Refused, "unbuilt\n")?;
+    expect(
+        &rt,
+        alloc,
+        WITH_ASSETS,
+        "0",
+        Status::Refused,
+        "fault Unsupported /assets\n",
+    )?;
     expect(&rt, alloc, "[1]x", "0", Status::Refused, "syntax 3\n")?;
     expect(&rt, alloc, SOLID, "60", Status::Usage, "")?;
     expect(&rt, alloc, SOLID, "-0.000001", Status::Usage, "")?;

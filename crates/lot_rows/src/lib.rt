@@ -2,6 +2,8 @@
 #![tactic(auto)]
 
 #[cfg(test)]
+mod first_fault;
+#[cfg(test)]
 mod first_frame;
 #[cfg(test)]
 mod number_tokens;
@@ -9,6 +11,8 @@ mod number_tokens;
 mod one_file;
 #[cfg(test)]
 mod outside_fails;
+#[cfg(test)]
+mod properties;
 #[cfg(test)]
 mod short_sink;
 #[cfg(test)]

@@ -1,6 +1,7 @@
 //! How far bytes are viable as a JSON text, as the program tells it.
 use crate::one_file::OneFile;
 use crate::short_sink::{ShortSink, run_on};
+use lot_json::{Decoder, Json, JsonRefusal, parse};
 use lot_play::Status;
 use lot_types::Memory;
 use std::alloc::Global;
@@ -37,13 +38,55 @@ fn a_fault_in_the_text_has_its_exact_place(rt: HostRuntime) -> Result<(), Fail> 
         (&open, "syntax 128\n"),
         (b"\xEF\xBB\xBF[", "syntax 4\n"),
         (b"\xEF\xBB[", "syntax 2\n"),
-        (b"5", "unbuilt\n"),
+        (b"5", "fault Kind \n"),
         (b"\"\xC1\x81\"", "syntax 1\n"),
         (b" [1, ]", "syntax 5\n"),
     ];
     for (document, line) in rows {
         expect(&rt, alloc, document, 1, line)?;
         expect(&rt, alloc, document, 4096, line)?;
+    }
+    Ok(())
+}
+
+/// The offset of a refusal, and what stands for want of memory and for a tree.
+fn offset(read: &Result<Json, JsonRefusal>) -> u64 {
+    match read {
+        Ok(_) => A_TREE,
+        Err(JsonRefusal::Syntax(offset)) => *offset,
+        Err(JsonRefusal::Memory) => NO_MEMORY,
+    }
+}
+
+const A_TREE: u64 = u64::MAX;
+
+const NO_MEMORY: u64 = u64::MAX - 1;
+
+/// What a decoder answers that is fed the bytes one by one, also behind a refusal.
+fn read_by_bytes(alloc: Global, bytes: &[u8]) -> Result<Json, JsonRefusal> {
+    let mut decoder = Decoder::new(alloc)?;
+    for c in bytes {
+        let _ = decoder.feed(&[*c]);
+    }
+    decoder.finish()
+}
+
+#[test]
+fn pieces_make_no_difference(rt: HostRuntime) -> Result<(), Fail> {
+    let alloc = rt.alloc();
+    let rows: [(&[u8], u64); 8] = [
+        (b"{\"a\":[1,-2.5e3,\"\\u00e9\"]}", A_TREE),
+        (b"\xEF\xBB\xBF [true]", A_TREE),
+        (b"", 0),
+        (b"01", 1),
+        (b"[1]x", 3),
+        (b"\"\\uD800\"", 7),
+        (b"{\"w\":1", 6),
+        (b"[1,]", 3),
+    ];
+    for (bytes, wanted) in rows {
+        assert_eq!(rt; offset(&parse(alloc, bytes)), wanted);
+        assert_eq!(rt; offset(&read_by_bytes(alloc, bytes)), wanted);
     }
     Ok(())
 }

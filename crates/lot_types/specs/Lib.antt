@@ -1,2 +1,5 @@
+pub mod Curve
+pub mod FaultName
+pub mod Ramp
 pub mod Range
 pub mod formers

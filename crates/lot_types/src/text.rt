@@ -5,7 +5,7 @@ use std::alloc::Global;
 use std::marker::Model;
 
 /// A text in UTF-8 that keeps its allocator. Contracts see it as the list of its bytes.
-#[derive(Drop)]
+#[derive(Debug, Drop)]
 pub struct Text {
     text: String,
 }
@@ -43,6 +43,20 @@ impl Text {
     {
         self.text.push(c)?;
         Ok(())
+    }
+
+    /// Puts a text at the end. Where there is no memory the text stays as it was.
+    pub fn append(&mut self, s: &str) -> Result<(), Memory>
+        ensures ok { OnOk result (self.new ≡ self.old ++ s.now) }
+        ensures err { OnErr result (self.new ≡ self.old) }
+    {
+        self.text.push_str(s)?;
+        Ok(())
+    }
+
+    /// The allocator that it keeps.
+    pub fn allocator(&self) -> Global {
+        *self.text.allocator()
     }
 
     /// Lends the text.

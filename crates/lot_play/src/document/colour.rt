@@ -1,7 +1,9 @@
 ghost use Rattle.std.specs.Prelude.{◌≡◌};
-ghost use Rattle.lot_play.specs.Form.{hex_digit as digit_in, hex_byte as byte_in, colour_of};
+ghost use Rattle.lot_play.specs.Table.{hex_digit as digit_in, hex_byte as byte_in, colour_of, colour as colour_in};
 
-use lot_types::Rgb;
+use lot_json::{Json, Pointer};
+use lot_read::{Reader, refuse};
+use lot_types::{FaultCode, Refusal, Rgb, Seq, Use};
 
 /// The value of a hexadecimal digit of either case.
 fn hex_digit(c: u8) -> Option<u8>
@@ -25,8 +27,8 @@ fn hex_byte(high: u8, low: u8) -> Option<u8>
 }
 
 /// The colour that `#` and six hexadecimal digits stand for.
-#[tactic(auto, unfolding(crate::specs::Form::colour_of))]
-pub fn colour(text: &[u8]) -> Option<Rgb>
+#[tactic(auto, unfolding(crate::specs::Table::colour_of))]
+fn colour(text: &[u8]) -> Option<Rgb>
     ensures { result ≡ colour_of text.now }
 {
     match text {
@@ -37,5 +39,26 @@ pub fn colour(text: &[u8]) -> Option<Rgb>
             Some(Rgb { r, g, b })
         }
         _ => None,
+    }
+}
+
+/// A colour: a text of `#` and six hexadecimal digits, else [`FaultCode::Value`].
+#[derive(Clone, Copy)]
+pub struct ColourText;
+
+impl Reader for ColourText {
+    type Value = Rgb;
+
+    ghost gives = { λ _. colour_in };
+
+    #[tactic(auto, unfolding(crate::specs::Table::colour))]
+    fn read(&self, at: &mut Pointer, v: &Json, uses: &mut Seq<Use>) -> Result<Rgb, Refusal> {
+        match v {
+            Json::Text(t) => match colour(t.as_str().as_bytes()) {
+                Some(rgb) => Ok(rgb),
+                None => Err(refuse(FaultCode::Value, at)),
+            },
+            _ => Err(refuse(FaultCode::Kind, at)),
+        }
     }
 }

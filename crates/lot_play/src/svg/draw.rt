@@ -73,7 +73,7 @@ fn put_layer(out: &mut Bytes, layer: &SolidLayer) -> Result<(), Memory>
 fn is_visible(layer: &SolidLayer, t: Time) -> bool
     ensures { result ≡ visible_at t layer.now }
 {
-    layer.ip.get() <= t.get() && t.get() < layer.op.get()
+    !layer.hidden && layer.ip.get() <= t.get() && t.get() < layer.op.get()
 }
 
 /// The visible layers from the last to the first.

@@ -10,10 +10,10 @@ pub returns-in-Ok-clause-answer : goal.returns-in-Ok-clause-answer
 returns-in-Ok-clause-answer c = answers_tree c.answer_tree.result _ _ c.in-Ok.j c.requires c.in-Ok.ensures.only.text c.in-Ok.ensures.only.only c.answer_tree.ensures
 
 pub returns-in-Ok-clause-verdict : goal.returns-in-Ok-clause-verdict
-returns-in-Ok-clause-verdict c = tree_verdict c.answer_tree.result c.in-Ok.j c.args.time c.answer_tree.ensures
+returns-in-Ok-clause-verdict c = tree_verdict c.answer_tree.result c.in-Ok.j c.args.task c.answer_tree.ensures
 
 pub returns-in-Ok-clause-silent : goal.returns-in-Ok-clause-silent
-returns-in-Ok-clause-silent c = tree_silent c.answer_tree.result c.in-Ok.j c.args.time c.answer_tree.ensures
+returns-in-Ok-clause-silent c = tree_silent c.answer_tree.result c.in-Ok.j c.args.task c.answer_tree.ensures
 
 pub returns-in-Err-Syntax-clause-answer : goal.returns-in-Err-Syntax-clause-answer
 returns-in-Err-Syntax-clause-answer c =

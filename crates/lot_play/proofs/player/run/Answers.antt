@@ -5,17 +5,17 @@ use Rattle.lot_play.proofs.Ending.{adds_none}
 use Rattle.lot_play.proofs.Running.{run_defined, run_exists, run_front, misuse_defined}
 use Rattle.lot_play.proofs.player.run.Goals as goal
 
-pub run_frame-requires : goal.run_frame-requires
-run_frame-requires g c = c.requires.serves _ _ c.in-Some.ensures.is
+pub run_task-requires : goal.run_task-requires
+run_task-requires g c = c.requires.serves _ _ c.in-Some.ensures.is
 
 pub returns-in-Some-clause-defined : goal.returns-in-Some-clause-defined
-returns-in-Some-clause-defined g c = run_defined _ _ _ _ c.in-Some.ensures _ _ _ _ _ _ _ _ _ c.run_frame.ensures.ends
+returns-in-Some-clause-defined g c = run_defined _ _ _ _ c.in-Some.ensures _ _ _ _ _ _ _ _ _ c.run_task.ensures.ends
 
 pub returns-in-Some-clause-exists : goal.returns-in-Some-clause-exists
-returns-in-Some-clause-exists g c = run_exists (g.F.Folder.told c.args.folder.now) _ _ _ c.in-Some.ensures _ _ _ _ _ _ _ _ _ c.run_frame.ensures.ends
+returns-in-Some-clause-exists g c = run_exists (g.F.Folder.told c.args.folder.now) _ _ _ c.in-Some.ensures _ _ _ _ _ _ _ _ _ c.run_task.ensures.ends
 
 pub returns-in-Some-clause-front : goal.returns-in-Some-clause-front
-returns-in-Some-clause-front g c = run_front _ _ _ _ c.in-Some.ensures _ _ _ _ _ _ _ _ _ c.run_frame.ensures.ends
+returns-in-Some-clause-front g c = run_front _ _ _ _ c.in-Some.ensures _ _ _ _ _ _ _ _ _ c.run_task.ensures.ends
 
 pub returns-in-Some-clause-misused : goal.returns-in-Some-clause-misused
 returns-in-Some-clause-misused g c = λ none. absurd (none _ _ c.in-Some.ensures.is)

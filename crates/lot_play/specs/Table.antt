@@ -1,0 +1,155 @@
+-- What a document says: the tables of the members of the whole animation, of its layers and of their transforms. The
+-- members are those of the Lottie Specification 1.0; which of them are read, and in which order their faults are told,
+-- is this project's own.
+use Rattle.std.specs.Prelude.{◌==◌, ℕ, ℤ, pos, ◌*◌, ◌+◌, ◌-◌, ◌%◌, ◌^◌, ◌&&◌, false, not, nat_le, int_lt, unsigned_abs, List, [], ◌∷◌, Option, Some, None, codes, if◌then◌else◌}
+use Rattle.std.specs.Ordering.{int_eq}
+use Rattle.lot_types.specs.declared.fault.FaultCode.TheVariants.{Kind, Value, Order, Unsupported}
+use Rattle.lot_types.specs.declared.point.Point.{Point}
+use Rattle.lot_types.specs.declared.rgb.Rgb.{Rgb}
+use Rattle.lot_types.specs.declared.prop.Prop.TheVariants.{Own}
+use Rattle.lot_types.specs.declared.prop.Track.TheVariants.{Still}
+use Rattle.lot_types.specs.declared.prop.Position.{Position}
+use Rattle.lot_types.specs.declared.prop.Position.TheVariants.{Whole}
+use Rattle.lot_json.specs.declared.json.Json.{Json, out-Json}
+use Rattle.lot_json.specs.declared.json.Json.TheOpen as tree
+use Rattle.lot_json.specs.declared.pointer.Step.{Step}
+use Rattle.lot_read.specs.Reading.{Reading, Reader, Row, under, good, bad, ◌>>=◌, ◌⊛◌, ◌also◌, ◌then◌}
+use Rattle.lot_read.specs.Rows.{needed, optional, unbuilt, object, list}
+use Rattle.lot_read.specs.Kinds.{any, not_below_zero, above_zero, number, flag, unset}
+use Rattle.lot_read.specs.Property.{position}
+use Rattle.lot_play.specs.declared.document.canvas.Span.{Span}
+use Rattle.lot_play.specs.declared.document.solid.Solid.{Solid}
+use Rattle.lot_play.specs.declared.document.solid.SolidLayer.{SolidLayer}
+use Rattle.lot_play.specs.declared.document.Document.{Document}
+
+-- A hexadecimal digit of either case.
+abbrev pub hex_digit : ℕ → Option ℕ
+hex_digit c =
+    if nat_le 48 c && nat_le c 57 then Some (c - 48)
+    else if nat_le 65 c && nat_le c 70 then Some (c - 55)
+    else if nat_le 97 c && nat_le c 102 then Some (c - 87)
+    else None
+
+abbrev pub hex_byte : ℕ → ℕ → Option ℕ
+hex_byte high low = hex_digit high >>= λ h. hex_digit low >>= λ l. Some (16 * h + l)
+
+-- A colour: '#' and six hexadecimal digits.
+unfoldable pub colour_of : List ℕ → Option Rgb
+colour_of (hash ∷ a ∷ b ∷ c ∷ d ∷ e ∷ f ∷ []) =
+    if not (nat_le 35 hash && nat_le hash 35) then None
+    else hex_byte a b >>= λ r. hex_byte c d >>= λ g. hex_byte e f >>= λ b. Some (record { r = r; g = g; b = b })
+colour_of _ = None
+
+abbrev pub or_no_value : {A : Type 0} → List Step → Option A → Reading A
+or_no_value at (Some x) = good x
+or_no_value at None = bad Value at
+
+unfoldable pub colour : Reader Rgb
+colour at j = elim (out-Json j) [ tree.Text t ↦ or_no_value at (colour_of t) | _ ↦ bad Kind at ]
+
+-- The blend mode that is built, which is 0.
+unfoldable pub normal_blend : Reader (Unit {0})
+normal_blend at j = number any at j then λ z. if int_eq z (pos 0) then good tt else bad Unsupported at
+
+abbrev pub without_items : List Step → List Json → Reading (Unit {0})
+without_items at [] = good tt
+without_items at (j ∷ js) = bad Unsupported at
+
+-- A list of a feature that is left out: it has no items.
+unfoldable pub no_items : Reader (Unit {0})
+no_items at j = elim (out-Json j) [ tree.Items js ↦ without_items at js | _ ↦ bad Kind at ]
+
+-- The features of a layer that are left out.
+unfoldable pub left_out : Row (Unit {0})
+left_out at m =
+    good tt
+    also optional (codes "ddd") unset false at m
+    also optional (codes "ao") unset false at m
+    also optional (codes "bm") normal_blend tt at m
+    also optional (codes "ef") no_items tt at m
+    also optional (codes "sy") no_items tt at m
+
+abbrev pub origin : Point
+origin = record { x = pos 0; y = pos 0 }
+
+-- Where a position stands that neither moves nor takes its value from a slot.
+abbrev pub standing : Position → Point
+standing (Whole (Own (Still p))) = p
+standing _ = origin
+
+-- A transform: the way of the layer's left upper corner from that of the animation.
+unfoldable pub transform_rows : List (List ℕ) → Row Point
+transform_rows names at m =
+    good (λ p. standing p)
+    also unbuilt (codes "a") at m
+    ⊛ optional (codes "p") (position names) (Whole (Own (Still origin))) at m
+    also unbuilt (codes "s") at m
+    also unbuilt (codes "r") at m
+    also unbuilt (codes "o") at m
+    also unbuilt (codes "sk") at m
+    also unbuilt (codes "sa") at m
+
+-- The rectangle of a solid layer.
+unfoldable pub solid_rows : Row Solid
+solid_rows at m =
+    good (λ w h rgb. record { w = w; h = h; rgb = rgb })
+    ⊛ needed (codes "sw") (number not_below_zero) at m
+    ⊛ needed (codes "sh") (number not_below_zero) at m
+    ⊛ needed (codes "sc") colour at m
+
+unfoldable pub layer_rows : List (List ℕ) → Row SolidLayer
+layer_rows names at m =
+    good (λ hidden ip op position solid. record { hidden = hidden; ip = ip; op = op; position = position; w = solid.w; h = solid.h; rgb = solid.rgb })
+    also left_out at m
+    ⊛ optional (codes "hd") flag false at m
+    also unbuilt (codes "ind") at m
+    also unbuilt (codes "parent") at m
+    ⊛ needed (codes "ip") (number any) at m
+    ⊛ needed (codes "op") (number any) at m
+    also unbuilt (codes "td") at m
+    also unbuilt (codes "tt") at m
+    also unbuilt (codes "tp") at m
+    ⊛ needed (codes "ks") (object (transform_rows names)) at m
+    also unbuilt (codes "masksProperties") at m
+    ⊛ solid_rows at m
+
+-- The type of a layer: a whole number, of which 1, a solid layer, is built.
+abbrev pub is_solid : List Step → ℤ → Reading (Unit {0})
+is_solid at z =
+    if int_eq z (pos (10 ^ 6)) then good tt
+    else if unsigned_abs z % 10 ^ 6 == 0 then bad Unsupported at
+    else bad Value at
+
+unfoldable pub layer_type : Reader (Unit {0})
+layer_type at j = number any at j then is_solid at
+
+-- A layer. Behind a fault of its type nothing more of it is read.
+unfoldable pub layer : List (List ℕ) → Row SolidLayer
+layer names at m = needed (codes "ty") layer_type at m then λ _. layer_rows names at m
+
+-- An animation ends behind its start.
+abbrev pub in_order : List Step → Span → Reading Span
+in_order at span = if int_lt span.ip span.op then good span else bad Order (under at (codes "op"))
+
+unfoldable pub span_rows : Row Span
+span_rows at m =
+    (good (λ ip op. record { ip = ip; op = op })
+    ⊛ needed (codes "ip") (number any) at m
+    ⊛ needed (codes "op") (number any) at m)
+    then in_order at
+
+-- The whole animation.
+unfoldable pub root : List (List ℕ) → Row Document
+root names at m =
+    good (λ w h span layers. record { canvas = record { w = w; h = h; ip = span.ip; op = span.op }; layers = layers })
+    ⊛ needed (codes "w") (number not_below_zero) at m
+    ⊛ needed (codes "h") (number not_below_zero) at m
+    also needed (codes "fr") (number above_zero) at m
+    ⊛ span_rows at m
+    also unbuilt (codes "slots") at m
+    also unbuilt (codes "assets") at m
+    ⊛ needed (codes "layers") (list 4096 (object (layer names))) at m
+
+-- A document. It has no slots yet.
+abbrev pub document : Json → Reading Document
+document j = object (root []) [] j

@@ -1,0 +1,4 @@
+pub mod Faults
+mod Items
+mod Lengths
+mod SeenNames

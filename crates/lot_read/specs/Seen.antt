@@ -1,0 +1,10 @@
+-- How the table of names is seen: as the bytes of its keys.
+use Rattle.std.specs.Prelude.{ℕ, Bool, List, map}
+use Rattle.std.specs.declared.vec.Vec.{Vec}
+use Rattle.std.specs.declared.alloc.Global.{Global}
+
+abbrev pub seen : List (Vec ℕ Global × Bool) → List (List ℕ × Bool)
+seen es = map (λ e. (e.0.items, e.1)) es
+
+abbrev pub seen_names : List (Vec ℕ Global × Bool) → List (List ℕ)
+seen_names es = map (λ e. e.0.items) es
