@@ -38,7 +38,7 @@ impl Machine {
         };
         match c {
             b',' => {
-                self.enter(Open::Array(items))?;
+                self.wait(Open::Array(items))?;
                 Ok(true)
             }
             b']' => {

@@ -53,7 +53,7 @@ impl Machine {
         let Mode::Colon(pairs, name) = mem::replace(&mut self.mode, Mode::Value) else {
             return Ok(false);
         };
-        self.enter(Open::Member(pairs, name))?;
+        self.wait(Open::Member(pairs, name))?;
         Ok(true)
     }
 }

@@ -59,12 +59,22 @@ impl Machine {
         ensures mode { OnOk result (self.new.mode ≡ Mode.Value) }
         ensures stack { OnOk result (stack_of self.new ≡ outer ∷ stack_of self.old) }
     {
-        self.stack.push(outer)?;
+        self.wait(outer)?;
         self.turn_to(Mode::Value);
         Ok(())
     }
 
+    /// Puts an array or an object with those that wait, as the innermost.
+    pub(crate) fn wait(&mut self, outer: Open) -> Result<(), Memory>
+        ensures mode { OnOk result (self.new.mode ≡ self.old.mode) }
+        ensures stack { OnOk result (stack_of self.new ≡ outer ∷ stack_of self.old) }
+    {
+        self.stack.push(outer)?;
+        Ok(())
+    }
+
     /// Goes on in another mode.
+    #[inline(always)]
     pub(crate) fn turn_to(&mut self, next: Mode)
         ensures turned { self.new.mode ≡ next }
         ensures stack { stack_of self.new ≡ stack_of self.old }
