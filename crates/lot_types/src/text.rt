@@ -4,6 +4,9 @@ use crate::{Duplicate, Memory};
 use std::alloc::Global;
 use std::marker::Model;
 
+/// How many bytes a text asks for at least where it grows: the allocator gives out no fewer.
+const LEAST: usize = 24;
+
 /// A text in UTF-8 that keeps its allocator. Contracts see it as the list of its bytes.
 #[derive(Debug, Drop)]
 pub struct Text {
@@ -41,6 +44,9 @@ impl Text {
         ensures ok { OnOk result (self.new ≡ self.old ++ encode_utf8 c) }
         ensures err { OnErr result (self.new ≡ self.old) }
     {
+        if self.text.len() == self.text.capacity() {
+            self.text.reserve(LEAST)?;
+        }
         self.text.push(c)?;
         Ok(())
     }
