@@ -5,6 +5,7 @@ use std::marker::Model;
 /// in `o` the way to that of the curve that goes out. The three lists have one length.
 #[derive(Drop)]
 pub struct Bezier {
+    /// A last curve leads from the last vertex back to the first.
     pub closed: bool,
     pub v: Seq<Point>,
     pub i: Seq<Point>,

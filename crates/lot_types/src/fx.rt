@@ -1,6 +1,7 @@
 ghost use Rattle.std.specs.Prelude.{◌≡◌, ◌↔◌, IsSome, IfSome};
 ghost use Rattle.lot_types.specs.Range.{InRange};
 
+use crate::range::is_in_range;
 use std::marker::Model;
 
 /// A number in millionths: of a pixel, of a degree, of a per cent, or of one. It is from -10^13 to 10^13, that is
@@ -35,7 +36,7 @@ impl Fx {
         ensures some { IsSome result ↔ InRange v }
         ensures value { IfSome result (λ x. x ≡ v) }
     {
-        if v.unsigned_abs() <= LARGEST {
+        if is_in_range(v) {
             Some(Fx { raw: v })
         } else {
             None
@@ -50,5 +51,3 @@ impl Fx {
         self.raw
     }
 }
-
-const LARGEST: u64 = 10_000_000_000_000;

@@ -1,9 +1,9 @@
 use crate::{Fx, Seq};
 use std::marker::Model;
 
-/// The colours along a gradient, and its opacities. The first four numbers for each of the `stops` are its offset and
-/// its red, green and blue, each in millionths; behind all of these each two numbers are an offset and an opacity.
-/// There is at least one stop.
+/// The colours along a gradient, and its opacities, in millionths. `flat` has four numbers for each of the `stops`, its
+/// offset and its red, green and blue; behind all of these each two numbers are an offset and an opacity. There is at
+/// least one stop.
 #[derive(Drop)]
 pub struct Gradient {
     pub stops: u32,

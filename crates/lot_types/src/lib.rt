@@ -19,6 +19,7 @@ mod memory;
 mod name;
 mod point;
 mod prop;
+mod range;
 mod refusal;
 mod rgb;
 mod seq;

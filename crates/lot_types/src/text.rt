@@ -4,7 +4,7 @@ use crate::{Duplicate, Memory};
 use std::alloc::Global;
 use std::marker::Model;
 
-/// How many bytes a text asks for at least where it grows: the allocator gives out no fewer.
+/// How many bytes a text asks for at least where a character finds it full: the allocator gives out no fewer.
 const LEAST: usize = 24;
 
 /// A text in UTF-8 that keeps its allocator. Contracts see it as the list of its bytes.

@@ -1,6 +1,7 @@
 ghost use Rattle.std.specs.Prelude.{◌≡◌, ◌↔◌, IsSome, IfSome};
 ghost use Rattle.lot_types.specs.Range.{InRange};
 
+use crate::range::is_in_range;
 use std::marker::Model;
 
 /// A moment of an animation in millionths of a frame. It is from -10^13 to 10^13, that is from minus ten million
@@ -29,7 +30,7 @@ impl Time {
         ensures some { IsSome result ↔ InRange v }
         ensures value { IfSome result (λ x. x ≡ v) }
     {
-        if v.unsigned_abs() <= LARGEST {
+        if is_in_range(v) {
             Some(Time { raw: v })
         } else {
             None
@@ -44,5 +45,3 @@ impl Time {
         self.raw
     }
 }
-
-const LARGEST: u64 = 10_000_000_000_000;
