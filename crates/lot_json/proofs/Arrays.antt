@@ -2,12 +2,13 @@
 use Rattle.std.proofs.Common.{◌≡◌, ◌≢◌, ℕ, ◌-◌, List, [], ◌∷◌, ◌++◌, length, refl, sym, ◌∙◌, ap, subst, append-nil, append_assoc, arith}
 use Rattle.lot_json.specs.declared.json.Json.{Json}
 use Rattle.lot_json.specs.declared.json.Json.TheVariants as tree
-use Rattle.lot_json.specs.declared.machine.mode.Mode.TheVariants as mode
+use Rattle.lot_json.specs.Reading as reading
 use Rattle.lot_json.specs.declared.machine.opened.Open.{Open}
 use Rattle.lot_json.specs.declared.machine.opened.Open.TheVariants as opened
 use Rattle.lot_json.specs.Grammar.{IsSpace, Value, Element, element_space, element_value, Items, items_space, items_close, items_first, MoreItems, more_items_space, more_items_close, more_items_next}
 use Rattle.lot_json.specs.Residual.{Puts, Completes, Rest}
-use Rattle.lot_json.proofs.Residual.{heads, Goes, Ends, Stops, CanComplete, RestSteps, then-end}
+use Rattle.lot_json.proofs.Utf8.{heads}
+use Rattle.lot_json.proofs.Residual.{Goes, Ends, CanComplete, RestSteps, then-end}
 use Rattle.lot_json.proofs.Begins.{IsFirst, value_first, value_some}
 use Rattle.lot_json.proofs.Values.{element_can}
 
@@ -20,30 +21,30 @@ pub first_of : (n c : ℕ) (f s t : List ℕ) (y : Json) → Value n f y → c �
 first_of n c f s t y v e = let q = value_first n f y v in subst (λ (z : ℕ). IsFirst z) (sym (heads (e ∙ ap (λ (z : List ℕ). z ++ s) q.2)).0) q.3
 
 -- Behind the '['.
-pub items_some : (n : ℕ) (y : Json) → Completes mode.Items n [] y → ⊥
+pub items_some : (n : ℕ) (y : Json) → Completes reading.Items n [] y → ⊥
 items_some n y (ys, items_space c r sp h e, is) = cc
 items_some n y (ys, items_close e name, is) = cc
 items_some n y (ys, items_first [] r z zs v h e name, is) = value_some (127 - n) z v
 items_some n y (ys, items_first (c ∷ f) r z zs v h e name, is) = cc
 
-items_space-ahead : (n c : ℕ) → IsSpace c → (t : List ℕ) (y : Json) → Completes mode.Items n (c ∷ t) y → Completes mode.Items n t y
+items_space-ahead : (n c : ℕ) → IsSpace c → (t : List ℕ) (y : Json) → Completes reading.Items n (c ∷ t) y → Completes reading.Items n t y
 items_space-ahead n c sp t y (ys, items_space d r s h e, is) = (ys, subst (λ (z : List ℕ). Items (127 - n) z ys) (sym (heads e).1) h, is)
 items_space-ahead n c sp t y (ys, items_close e name, is) = let q = (heads e).0 in absurd (omega arith)
 items_space-ahead n c sp t y (ys, items_first f r z zs v h e name, is) = let q = first_of (127 - n) c f r t z v e in absurd (omega arith)
 
-pub items_spaced : (n c : ℕ) → IsSpace c → Goes c (Completes mode.Items n) (Completes mode.Items n)
+pub items_spaced : (n c : ℕ) → IsSpace c → Goes c (Completes reading.Items n) (Completes reading.Items n)
 items_spaced n c sp = record {
   some = items_some n;
   ahead = items_space-ahead n c sp;
   back = λ t y h. (h.0, items_space c t sp h.1 refl, h.2);
 }
 
-items_close-ahead : (n c : ℕ) → c ≡ 93 → (t : List ℕ) (y : Json) → Completes mode.Items n (c ∷ t) y → (t ≡ []) × (y ≡ tree.Items [])
+items_close-ahead : (n c : ℕ) → c ≡ 93 → (t : List ℕ) (y : Json) → Completes reading.Items n (c ∷ t) y → (t ≡ []) × (y ≡ tree.Items [])
 items_close-ahead n c a t y (ys, items_space d r s h e, is) = let q = (heads e).0 in absurd (omega arith)
 items_close-ahead n c a t y (ys, items_close e name, is) = ((heads e).1, is ∙ ap tree.Items name)
 items_close-ahead n c a t y (ys, items_first f r z zs v h e name, is) = let q = first_of (127 - n) c f r t z v e in absurd (omega arith)
 
-pub items_closed : (n c : ℕ) → c ≡ 93 → Ends c (Completes mode.Items n) (tree.Items [])
+pub items_closed : (n c : ℕ) → c ≡ 93 → Ends c (Completes reading.Items n) (tree.Items [])
 items_closed n c a = record {
   some = items_some n;
   ahead = items_close-ahead n c a;
@@ -51,7 +52,7 @@ items_closed n c a = record {
 }
 
 -- Any other byte is read as the first of an item.
-pub items_item-ahead : (c : ℕ) → (IsSpace c → ⊥) → c ≢ 93 → (stack : List Open) (r : List ℕ) (x : Json) → Rest mode.Items stack (c ∷ r) x → Rest mode.Value (opened.Array [] ∷ stack) (c ∷ r) x
+pub items_item-ahead : (c : ℕ) → (IsSpace c → ⊥) → c ≢ 93 → (stack : List Open) (r : List ℕ) (x : Json) → Rest reading.Items stack (c ∷ r) x → Rest reading.Value (opened.Array [] ∷ stack) (c ∷ r) x
 items_item-ahead c sp a stack r x (b, s, y, (ys, items_space d t p h e', is), e, puts) = absurd (sp (subst (λ (z : ℕ). IsSpace z) (sym (heads (e ∙ ap (λ (z : List ℕ). z ++ s) e')).0) p))
 items_item-ahead c sp a stack r x (b, s, y, (ys, items_close e' name, is), e, puts) = absurd (a (heads (e ∙ ap (λ (z : List ℕ). z ++ s) e')).0)
 items_item-ahead c sp a stack r x (b, s, y, (ys, items_first f t z zs v h e' name, is), e, puts) = (
@@ -67,45 +68,45 @@ items_item-build : (n c : ℕ) → (IsSpace c → ⊥) → (f s t b : List ℕ) 
 items_item-build n c sp f s t b y ys (element_space d r p h e) k m = absurd (sp (subst (λ (z : ℕ). IsSpace z) (sym (heads (k ∙ ap (λ (z : List ℕ). z ++ s) e)).0) p))
 items_item-build n c sp f s t b y ys (element_value v) k m = items_first f b y ys v m refl refl
 
-pub items_item-back : (c : ℕ) → (IsSpace c → ⊥) → (stack : List Open) (r : List ℕ) (x : Json) → Rest mode.Value (opened.Array [] ∷ stack) (c ∷ r) x → Rest mode.Items stack (c ∷ r) x
+pub items_item-back : (c : ℕ) → (IsSpace c → ⊥) → (stack : List Open) (r : List ℕ) (x : Json) → Rest reading.Value (opened.Array [] ∷ stack) (c ∷ r) x → Rest reading.Items stack (c ∷ r) x
 items_item-back c sp stack r x (f, s, y, h, e, (b, s', ys, m, e', puts)) =
     let k = subst (λ (n : ℕ). Element n f y) (sym (one_deeper stack (opened.Array []))) h in
     (f ++ b, s', tree.Items (y ∷ ys), (y ∷ ys, items_item-build (127 - length stack) c sp f s r b y ys k e m, refl), e ∙ ap (λ (z : List ℕ). f ++ z) e' ∙ sym (append_assoc f b s'), puts)
 
 -- Behind an item.
-pub after_item_can : (items : List Json) (n : ℕ) → CanComplete (Completes (mode.AfterItem items) n)
+pub after_item_can : (items : List Json) (n : ℕ) → CanComplete (Completes (reading.AfterItem items) n)
 after_item_can items n = (93 ∷ [], tree.Items (items ++ []), ([], more_items_close refl refl, refl))
 
-pub after_item_some : (items : List Json) (n : ℕ) (y : Json) → Completes (mode.AfterItem items) n [] y → ⊥
+pub after_item_some : (items : List Json) (n : ℕ) (y : Json) → Completes (reading.AfterItem items) n [] y → ⊥
 after_item_some items n y (ys, more_items_space c r sp h e, is) = cc
 after_item_some items n y (ys, more_items_close e name, is) = cc
 after_item_some items n y (ys, more_items_next f r z zs v h e name, is) = cc
 
-after_item_space-ahead : (items : List Json) (n c : ℕ) → IsSpace c → (t : List ℕ) (y : Json) → Completes (mode.AfterItem items) n (c ∷ t) y → Completes (mode.AfterItem items) n t y
+after_item_space-ahead : (items : List Json) (n c : ℕ) → IsSpace c → (t : List ℕ) (y : Json) → Completes (reading.AfterItem items) n (c ∷ t) y → Completes (reading.AfterItem items) n t y
 after_item_space-ahead items n c sp t y (ys, more_items_space d r s h e, is) = (ys, subst (λ (z : List ℕ). MoreItems (127 - n) z ys) (sym (heads e).1) h, is)
 after_item_space-ahead items n c sp t y (ys, more_items_close e name, is) = let q = (heads e).0 in absurd (omega arith)
 after_item_space-ahead items n c sp t y (ys, more_items_next f r z zs v h e name, is) = let q = (heads e).0 in absurd (omega arith)
 
-pub after_item_spaced : (items : List Json) (n c : ℕ) → IsSpace c → Goes c (Completes (mode.AfterItem items) n) (Completes (mode.AfterItem items) n)
+pub after_item_spaced : (items : List Json) (n c : ℕ) → IsSpace c → Goes c (Completes (reading.AfterItem items) n) (Completes (reading.AfterItem items) n)
 after_item_spaced items n c sp = record {
   some = after_item_some items n;
   ahead = after_item_space-ahead items n c sp;
   back = λ t y h. (h.0, more_items_space c t sp h.1 refl, h.2);
 }
 
-after_item_close-ahead : (items : List Json) (n c : ℕ) → c ≡ 93 → (t : List ℕ) (y : Json) → Completes (mode.AfterItem items) n (c ∷ t) y → (t ≡ []) × (y ≡ tree.Items items)
+after_item_close-ahead : (items : List Json) (n c : ℕ) → c ≡ 93 → (t : List ℕ) (y : Json) → Completes (reading.AfterItem items) n (c ∷ t) y → (t ≡ []) × (y ≡ tree.Items items)
 after_item_close-ahead items n c a t y (ys, more_items_space d r s h e, is) = let q = (heads e).0 in absurd (omega arith)
 after_item_close-ahead items n c a t y (ys, more_items_close e name, is) = ((heads e).1, is ∙ ap (λ (z : List Json). tree.Items (items ++ z)) name ∙ ap tree.Items (append-nil items))
 after_item_close-ahead items n c a t y (ys, more_items_next f r z zs v h e name, is) = let q = (heads e).0 in absurd (omega arith)
 
-pub after_item_closed : (items : List Json) (n c : ℕ) → c ≡ 93 → Ends c (Completes (mode.AfterItem items) n) (tree.Items items)
+pub after_item_closed : (items : List Json) (n c : ℕ) → c ≡ 93 → Ends c (Completes (reading.AfterItem items) n) (tree.Items items)
 after_item_closed items n c a = record {
   some = after_item_some items n;
   ahead = after_item_close-ahead items n c a;
   back = ([], more_items_close (ap (λ (z : ℕ). z ∷ []) a) refl, ap tree.Items (sym (append-nil items)));
 }
 
-after_item_comma-ahead : (items : List Json) (c : ℕ) → c ≡ 44 → (stack : List Open) (r : List ℕ) (x : Json) → Rest (mode.AfterItem items) stack (c ∷ r) x → Rest mode.Value (opened.Array items ∷ stack) r x
+after_item_comma-ahead : (items : List Json) (c : ℕ) → c ≡ 44 → (stack : List Open) (r : List ℕ) (x : Json) → Rest (reading.AfterItem items) stack (c ∷ r) x → Rest reading.Value (opened.Array items ∷ stack) r x
 after_item_comma-ahead items c a stack r x (b, s, y, (ys, more_items_space d t p h e', is), e, puts) = let q = (heads (e ∙ ap (λ (z : List ℕ). z ++ s) e')).0 in absurd (omega arith)
 after_item_comma-ahead items c a stack r x (b, s, y, (ys, more_items_close e' name, is), e, puts) = let q = (heads (e ∙ ap (λ (z : List ℕ). z ++ s) e')).0 in absurd (omega arith)
 after_item_comma-ahead items c a stack r x (b, s, y, (ys, more_items_next f t z zs v h e' name, is), e, puts) = (
@@ -117,7 +118,7 @@ after_item_comma-ahead items c a stack r x (b, s, y, (ys, more_items_next f t z 
   (t, s, zs, h, refl, subst (λ (w : Json). Puts stack w s x) (is ∙ ap (λ (w : List Json). tree.Items (items ++ w)) name ∙ ap tree.Items (sym (append_assoc items (z ∷ []) zs))) puts),
 )
 
-after_item_comma-back : (items : List Json) (c : ℕ) → c ≡ 44 → (stack : List Open) (r : List ℕ) (x : Json) → Rest mode.Value (opened.Array items ∷ stack) r x → Rest (mode.AfterItem items) stack (c ∷ r) x
+after_item_comma-back : (items : List Json) (c : ℕ) → c ≡ 44 → (stack : List Open) (r : List ℕ) (x : Json) → Rest reading.Value (opened.Array items ∷ stack) r x → Rest (reading.AfterItem items) stack (c ∷ r) x
 after_item_comma-back items c a stack r x (f, s, y, h, e, (b, s', ys, m, e', puts)) =
     let k = subst (λ (n : ℕ). Element n f y) (sym (one_deeper stack (opened.Array items))) h in (
       44 ∷ (f ++ b),
@@ -128,17 +129,9 @@ after_item_comma-back items c a stack r x (f, s, y, h, e, (b, s', ys, m, e', put
       subst (λ (w : Json). Puts stack w s' x) (ap tree.Items (append_assoc items (y ∷ []) ys)) puts,
     )
 
-pub after_item_comma : (items : List Json) (c : ℕ) → c ≡ 44 → (stack : List Open) → RestSteps c (mode.AfterItem items) stack mode.Value (opened.Array items ∷ stack)
+pub after_item_comma : (items : List Json) (c : ℕ) → c ≡ 44 → (stack : List Open) → RestSteps c (reading.AfterItem items) stack reading.Value (opened.Array items ∷ stack)
 after_item_comma items c a stack = record {
   ahead = after_item_comma-ahead items c a stack;
   back = after_item_comma-back items c a stack;
-  live = then-end (Completes mode.Value (length (opened.Array items ∷ stack))) (opened.Array items ∷ stack) (element_can (128 - length (opened.Array items ∷ stack)));
+  live = then-end (Completes reading.Value (length (opened.Array items ∷ stack))) (opened.Array items ∷ stack) (element_can (128 - length (opened.Array items ∷ stack)));
 }
-
-after_item_none : (items : List Json) (n c : ℕ) → (IsSpace c → ⊥) → c ≢ 44 → c ≢ 93 → (t : List ℕ) (y : Json) → Completes (mode.AfterItem items) n (c ∷ t) y → ⊥
-after_item_none items n c sp a k t y (ys, more_items_space d r s h e, is) = sp (subst (λ (z : ℕ). IsSpace z) (sym (heads e).0) s)
-after_item_none items n c sp a k t y (ys, more_items_close e name, is) = k (heads e).0
-after_item_none items n c sp a k t y (ys, more_items_next f r z zs v h e name, is) = a (heads e).0
-
-pub after_item_stops : (items : List Json) (n c : ℕ) → (IsSpace c → ⊥) → c ≢ 44 → c ≢ 93 → Stops c (Completes (mode.AfterItem items) n)
-after_item_stops items n c sp a k = record { some = after_item_some items n; none = after_item_none items n c sp a k }

@@ -5,13 +5,11 @@ use Rattle.lot_json.specs.declared.number.Number.{Number}
 use Rattle.lot_json.specs.declared.number_token.NumberToken.{NumberToken}
 use Rattle.lot_json.specs.declared.number_token.Place.TheVariants.{Start}
 use Rattle.lot_json.specs.Token.{Token, IsWhole, IsFraction, IsExponent, IsSign, digits_value, micro}
-use Rattle.lot_json.specs.NumberRest.{NumberRest, RestAt, settled}
+use Rattle.lot_json.specs.NumberRest.{NumberRest, RestAt, nothing, settled}
+use Rattle.lot_json.specs.NumberSteps.{Takes}
+use Rattle.std.specs.Bool.{OnTrue, OnFalse}
 use Rattle.lot_json.proofs.NumberMoves.{heads}
 use Rattle.lot_json.proofs.WholeMoves.{first_whole}
-
--- Before any digit.
-abbrev pub nothing : Bool → NumberToken
-nothing minus = record { minus = minus; place = Start; lead = 0; dropped = 0; places = 0 }
 
 same_number : (minus : Bool) (whole decimals : List ℕ) (power : ℤ) → micro minus (digits_value (whole ++ decimals)) (length decimals) power ≡ settled (nothing minus) whole decimals power
 same_number minus whole decimals power =
@@ -86,3 +84,16 @@ begin_other c minus other no_minus t m = (
       (ahead_other k.minus k.sign k.whole k.fraction k.decimals k.exponent k.power c t m other k.is_sign k.is_whole k.is_fraction k.is_exponent k.spelled k.value),
   λ r. signed_back false (c ∷ t) m (subst (λ (b : Bool). RestAt Start (nothing b) (c ∷ t) m) no_minus r),
 )
+
+-- Behind no minus the first digit was taken, or not.
+pub first_digit : (goes : Bool) (c : ℕ) (minus : Bool) (s : NumberToken) → (c ≡ 45 → ⊥) → minus ≡ false → Takes goes (RestAt Start (nothing minus)) c (nothing minus) s
+    → OnTrue goes ((t : List ℕ) (m : Number) → Token (c ∷ t) m ↔ NumberRest s t m)
+first_digit true c minus s other no_minus h = λ t m.
+    let k = begin_other c minus other no_minus t m in
+    (λ r. (h.goes t m).0 (k.0 r), λ r. k.1 ((h.goes t m).1 r))
+first_digit false c minus s other no_minus h = tt
+
+pub no_digit : (goes : Bool) (c : ℕ) (minus : Bool) (s : NumberToken) → (c ≡ 45 → ⊥) → minus ≡ false → Takes goes (RestAt Start (nothing minus)) c (nothing minus) s
+    → OnFalse goes ((t : List ℕ) (m : Number) → Token (c ∷ t) m → ⊥)
+no_digit true c minus s other no_minus h = tt
+no_digit false c minus s other no_minus h = λ t m r. h.stuck t m ((begin_other c minus other no_minus t m).0 r)

@@ -12,7 +12,7 @@ use Rattle.lot_json.specs.NumberRest.{IsFirstOfNumber}
 use Rattle.lot_json.specs.Grammar.{IsSpace, Value, null_value, true_value, false_value, number_value, text_value, array_value, object_value, Element, element_space, element_value, Items, Members}
 use Rattle.lot_json.specs.Word.{letters_of, tree_of}
 use Rattle.lot_json.specs.Residual.{object_of}
-use Rattle.lot_json.proofs.Residual.{heads}
+use Rattle.lot_json.proofs.Utf8.{heads}
 
 -- A list that begins with a byte of this kind.
 abbrev pub BeginsWith : (ℕ → Type 0) → List ℕ → Type 0

@@ -13,9 +13,6 @@ use Rattle.lot_json.proofs.CharacterBegins.{high_scalar}
 pub closes : (c : ℕ) → Then c (34 ∷ []) (encode_utf8 c ++ [])
 closes c = ([], close refl refl, refl)
 
-pub ends_nothing : (t x : List ℕ) × Characters t x
-ends_nothing = (34 ∷ [], [], close refl refl)
-
 pub ends_backslash : (t x : List ℕ) × Characters (92 ∷ t) x
 ends_backslash = (34 ∷ 34 ∷ [], encode_utf8 34 ++ [], more (92 ∷ 34 ∷ []) (34 ∷ []) [] 34 (short 34 (inl (refl, refl)) refl) (close refl refl) refl refl)
 

@@ -47,9 +47,3 @@ low_escape high t x = (ahead, λ h. back (digits_back (λ (u : ℕ) (r : List �
 
     back : FourRead (λ (u : ℕ) (r : List ℕ). AfterLow high u r x) t → AfterHigh high (92 ∷ 117 ∷ t) x
     back f = (f.unit, 92 ∷ 117 ∷ f.digits, f.rest, (f.digits, f.is, refl), f.holds.0, ap (λ (z : List ℕ). 92 ∷ 117 ∷ z) f.split, f.holds.1)
-
-pub high_first : (high c : ℕ) (t x : List ℕ) → c ≢ 92 → AfterHigh high (c ∷ t) x → ⊥
-high_first high c t x n h = n (heads (h.5 ∙ ap (λ (z : List ℕ). z ++ h.2) h.3.2)).0
-
-pub high_second : (high c : ℕ) (t x : List ℕ) → c ≢ 117 → AfterHigh high (92 ∷ c ∷ t) x → ⊥
-high_second high c t x n h = n (heads (heads (h.5 ∙ ap (λ (z : List ℕ). z ++ h.2) h.3.2)).1).0

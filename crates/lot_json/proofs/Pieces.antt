@@ -1,7 +1,7 @@
 -- What follows for the bytes that were read from what each of them does.
-use Rattle.std.proofs.Common.{◌≡◌, ◌↔◌, ◌⊎◌, ℕ, ◌+◌, ◌-◌, ◌^◌, ◌<◌, ◌≤◌, suc, min, Option, Some, List, [], ◌∷◌, ◌++◌, length, take, take-suc, take-append-drop, drop, drop-cons, get_or, refl, sym, ◌∙◌, ap, subst, inl, inr, append-nil, append_assoc, length-append, add-one, arith}
-use Rattle.std.proofs.lemmas.List.{take-append-le}
-use Rattle.std.proofs.Math.Seq.{take-append_seam, take-append-add, take-length}
+use Rattle.std.proofs.Common.{◌≡◌, ◌↔◌, ◌⊎◌, ℕ, ◌+◌, ◌-◌, ◌^◌, ◌<◌, ◌≤◌, min, Option, Some, List, [], ◌∷◌, ◌++◌, length, take, take-append-drop, drop, refl, sym, ◌∙◌, ap, subst, inl, inr, append-nil, append_assoc, length-append, arith}
+use Rattle.std.proofs.lemmas.List.{take-append-le, take-take, length-take, length-take-le}
+use Rattle.std.proofs.Math.Seq.{take-add, take-append-add, take-length}
 use Rattle.std.proofs.lemmas.Bool.{cases_lt}
 use Rattle.lot_json.specs.declared.json.Json.{Json}
 use Rattle.lot_json.specs.declared.json.Json.TheVariants as tree
@@ -11,7 +11,8 @@ use Rattle.lot_json.specs.declared.refusal.JsonRefusal.TheVariants as refusal
 use Rattle.lot_json.specs.Grammar.{Text, element_value, null_value}
 use Rattle.lot_json.specs.Viable.{IsViable, IsFar}
 use Rattle.lot_json.specs.Refusal.{IsOnlyTree, IsDead, IsRefused, IsBroken, IsNoText}
-use Rattle.lot_json.specs.Residual.{Left, Steps, IsStuck}
+use Rattle.lot_json.specs.Reading.{State, state_of}
+use Rattle.lot_json.specs.Residual.{Left, Steps, GoesTo, BreaksAt}
 use Rattle.lot_json.specs.Stands.{Reads, HasRead}
 
 pub front_viable : (b c : List ℕ) → IsViable (b ++ c) → IsViable b
@@ -21,7 +22,7 @@ pub text_viable : (b : List ℕ) (x : Json) → Text b x → IsViable b
 text_viable b x t = ([], (x, subst (λ (z : List ℕ). Text z x) (sym (append-nil b)) t))
 
 -- A machine that has read nothing.
-pub reads_nothing : (machine : Machine) → ((r : List ℕ) (x : Json) → Text r x ↔ Left machine r x) → Reads machine 0 []
+pub reads_nothing : (machine : Machine) → ((r : List ℕ) (x : Json) → Text r x ↔ Left (state_of machine) r x) → Reads machine 0 []
 reads_nothing machine k = record {
   counted = refl;
   ahead = λ r x t. (k r x).0 t;
@@ -29,42 +30,55 @@ reads_nothing machine k = record {
   live = (110 ∷ 117 ∷ 108 ∷ 108 ∷ [], tree.Null, (k (110 ∷ 117 ∷ 108 ∷ 108 ∷ []) tree.Null).0 (inl (record { element = 110 ∷ 117 ∷ 108 ∷ 108 ∷ []; spaces = []; is_element = element_value (null_value refl refl); are_spaces = tt; spelled = refl })));
 }
 
--- A byte more.
-pub goes_on : (old new : Machine) (n k : ℕ) (b : List ℕ) (c : ℕ) → Reads old n b → Steps c old new → k ≡ min (n + 1) (2 ^ 64 - 1) → Reads new k (b ++ c ∷ [])
-goes_on old new n k b c h step e = record {
-  counted = e ∙ (let q = h.counted in let l = length-append b (c ∷ []) in omega arith);
-  ahead = λ r x t. step.ahead r x (h.ahead (c ∷ r) x (subst (λ (z : List ℕ). Text z x) (append_assoc b (c ∷ []) r) t));
-  back = λ r x p. subst (λ (z : List ℕ). Text z x) (sym (append_assoc b (c ∷ []) r)) (h.back (c ∷ r) x (step.back r x p));
+-- Some bytes more.
+pub goes_on : (old new : Machine) (n k : ℕ) (b bytes : List ℕ) → Reads old n b → Steps bytes (state_of old) (state_of new) → k ≡ min (n + length bytes) (2 ^ 64 - 1) → Reads new k (b ++ bytes)
+goes_on old new n k b bytes h step e = record {
+  counted = e ∙ (let q = h.counted in let l = length-append b bytes in omega arith);
+  ahead = λ r x t. step.ahead r x (h.ahead (bytes ++ r) x (subst (λ (z : List ℕ). Text z x) (append_assoc b bytes r) t));
+  back = λ r x p. subst (λ (z : List ℕ). Text z x) (sym (append_assoc b bytes r)) (h.back (bytes ++ r) x (step.back r x p));
   live = step.live h.live;
 }
 
 pub is_viable : (machine : Machine) (n : ℕ) (b : List ℕ) → Reads machine n b → IsViable b
 is_viable machine n b h = (h.live.0, (h.live.1, h.back h.live.0 h.live.1 h.live.2))
 
-not_viable : (machine : Machine) (n : ℕ) (b : List ℕ) (c : ℕ) (rest : List ℕ) → Reads machine n b → IsStuck c machine → IsViable (b ++ c ∷ rest) → ⊥
-not_viable machine n b c rest h stuck v = stuck.none (rest ++ v.0) v.1.0 (h.ahead (c ∷ (rest ++ v.0)) v.1.0 (subst (λ (z : List ℕ). Text z v.1.0) (append_assoc b (c ∷ rest) v.0) v.1.1))
+not_viable : (machine : Machine) (n k : ℕ) (b rest : List ℕ) → Reads machine n b → BreaksAt k rest (state_of machine) → IsViable (b ++ rest) → ⊥
+not_viable machine n k b rest h stuck v =
+    let split : rest ++ v.0 ≡ take (k + 1) rest ++ (drop (k + 1) rest ++ v.0) = ap (λ (z : List ℕ). z ++ v.0) (sym (take-append-drop (k + 1) rest)) ∙ append_assoc (take (k + 1) rest) (drop (k + 1) rest) v.0 in
+    stuck.dead (drop (k + 1) rest ++ v.0) v.1.0
+    (subst (λ (z : List ℕ). Left (state_of machine) z v.1.0) split (h.ahead (rest ++ v.0) v.1.0 (subst (λ (z : List ℕ). Text z v.1.0) (append_assoc b rest v.0) v.1.1)))
 
 -- A front that is longer than b.
 longer_front : (b s : List ℕ) (j : ℕ) → length b < j → take j (b ++ s) ≡ b ++ take (j - length b) s
 longer_front b s j k = let e : j ≡ length b + (j - length b) = omega arith in ap (λ (z : ℕ). take z (b ++ s)) e ∙ take-append-add b s (j - length b)
 
-longer_than : (b : List ℕ) (c : ℕ) (rest : List ℕ) (j : ℕ) → length b < j → take j (b ++ c ∷ rest) ≡ b ++ c ∷ take (j - length b - 1) rest
-longer_than b c rest j k =
-    let e : j - length b ≡ suc (j - length b - 1) = omega arith in
-    longer_front b (c ∷ rest) j k ∙ ap (λ (z : ℕ). b ++ take z (c ∷ rest)) e
-
--- The byte c stops the machine.
-pub is_refused : (machine : Machine) (n : ℕ) (b : List ℕ) (c : ℕ) (rest : List ℕ) → Reads machine n b → IsStuck c machine → IsDead (b ++ c ∷ rest) n
-is_refused machine n b c rest h stuck = record {
-  dead = not_viable machine n b c rest h stuck;
-  far = (
-    length b,
+-- What breaks in some bytes breaks in a longer front of theirs too.
+still_breaks : (n k : ℕ) (bytes : List ℕ) (old : State) → k < n → BreaksAt k bytes old → BreaksAt k (take n bytes) old
+still_breaks n k bytes old l h =
+    let t : take (k + 1) (take n bytes) ≡ take (k + 1) bytes = take-take (k + 1) n bytes (omega (arith, l)) in
+    let u : take k (take n bytes) ≡ take k bytes = take-take k n bytes (omega (arith, l)) in
     record {
-      within = let l = length-append b (c ∷ rest) in omega arith;
-      viable = subst (λ (z : List ℕ). IsViable z) (sym (take-append_seam b (c ∷ rest))) (is_viable machine n b h);
-      longest = λ j k m v. not_viable machine n b c (take (j - length b - 1) rest) h stuck (subst (λ (z : List ℕ). IsViable z) (longer_than b c rest j k) v);
+      within = let q = length-take n bytes in omega (arith, q, l, h.within);
+      live = λ can. let q = h.live can in (q.0, q.1, subst (λ (z : List ℕ). Left old (z ++ q.0) q.1) (sym u) q.2);
+      dead = λ r x p. h.dead r x (subst (λ (z : List ℕ). Left old (z ++ r) x) t p);
+    }
+
+-- The machine is stuck behind the first k bytes.
+pub is_refused : (machine : Machine) (n m k : ℕ) (b rest : List ℕ) → Reads machine n b → BreaksAt k rest (state_of machine) → m ≡ min (n + k) (2 ^ 64 - 1) → IsDead (b ++ rest) m
+is_refused machine n m k b rest h stuck e = record {
+  dead = not_viable machine n k b rest h stuck;
+  far = (
+    length b + k,
+    record {
+      within = let l = length-append b rest in omega (arith, l, stuck.within);
+      viable =
+          let q = stuck.live h.live in
+          subst (λ (z : List ℕ). IsViable z) (sym (take-append-add b rest k)) (q.0, (q.1, subst (λ (z : List ℕ). Text z q.1) (sym (append_assoc b (take k rest) q.0)) (h.back (take k rest ++ q.0) q.1 q.2)));
+      longest = λ j l m v.
+          not_viable machine n k b (take (j - length b) rest) h (still_breaks (j - length b) k rest (state_of machine) (omega (arith, l)) stuck)
+          (subst (λ (z : List ℕ). IsViable z) (longer_front b rest j (omega (arith, l))) v);
     },
-    h.counted,
+    e ∙ (let q = h.counted in omega (arith, q)),
   );
 }
 
@@ -96,7 +110,7 @@ refused_text (refusal.Syntax k) b h = record { none = λ t. h.dead (text_viable 
 refused_text refusal.Memory b h = tt
 
 -- The bytes end where the machine cannot.
-pub is_broken : (machine : Machine) (n : ℕ) (b : List ℕ) → Reads machine n b → ((x : Json) → Left machine [] x → ⊥) → IsBroken b n
+pub is_broken : (machine : Machine) (n : ℕ) (b : List ℕ) → Reads machine n b → ((x : Json) → Left (state_of machine) [] x → ⊥) → IsBroken b n
 is_broken machine n b h k = record {
   none = λ t. k t.0 (h.ahead [] t.0 (subst (λ (z : List ℕ). Text z t.0) (sym (append-nil b)) t.1));
   far = (
@@ -110,25 +124,33 @@ is_broken machine n b h k = record {
   );
 }
 
-pub is_only : (machine : Machine) (n : ℕ) (b : List ℕ) (x : Json) → Reads machine n b → ((y : Json) → Left machine [] y ↔ (y ≡ x)) → IsOnlyTree b x
+pub is_only : (machine : Machine) (n : ℕ) (b : List ℕ) (x : Json) → Reads machine n b → ((y : Json) → Left (state_of machine) [] y ↔ (y ≡ x)) → IsOnlyTree b x
 is_only machine n b x h k = record {
   text = subst (λ (z : List ℕ). Text z x) (append-nil b) (h.back [] x ((k x).1 refl));
   only = λ y t. (k y).0 (h.ahead [] y (subst (λ (z : List ℕ). Text z y) (sym (append-nil b)) t));
 }
 
--- One more byte of a piece was read.
-pub piece_goes : (first old new : Machine) (start n k : ℕ) (piece : List ℕ) (i c : ℕ) → i < length piece → c ≡ get_or piece i 0 → Steps c old new → k ≡ min (n + 1) (2 ^ 64 - 1)
-    → ((b : List ℕ) → Reads first start b → Reads old n (b ++ take i piece)) → (b : List ℕ) → Reads first start b → Reads new k (b ++ take (i + 1) piece)
-piece_goes first old new start n k piece i c l is step e h b r =
-    let q : take (i + 1) piece ≡ take i piece ++ c ∷ [] = ap (λ (z : ℕ). take z piece) (add-one i) ∙ take-suc piece i 0 l ∙ ap (λ (z : ℕ). take i piece ++ z ∷ []) (sym is) in
-    subst (λ (z : List ℕ). Reads new k z) (append_assoc b (take i piece) (c ∷ []) ∙ ap (λ (z : List ℕ). b ++ z) (sym q)) (goes_on old new n k (b ++ take i piece) c (h b r) step e)
+-- Some bytes at the front of a piece.
+pub goes_to : (old new : Machine) (n m k : ℕ) (piece : List ℕ) → GoesTo k piece (state_of old) (state_of new) → m ≡ min (n + k) (2 ^ 64 - 1) → (b : List ℕ) → Reads old n b → Reads new m (b ++ take k piece)
+goes_to old new n m k piece g e b h = goes_on old new n m b (take k piece) h g.steps (e ∙ ap (λ (z : ℕ). min (n + z) (2 ^ 64 - 1)) (sym (length-take-le k piece g.within)))
 
--- A byte of a piece stops the machine.
-pub piece_stops : (first old : Machine) (start n : ℕ) (piece : List ℕ) (i c : ℕ) → i < length piece → c ≡ get_or piece i 0 → IsStuck c old
-    → ((b : List ℕ) → Reads first start b → Reads old n (b ++ take i piece)) → (b : List ℕ) → Reads first start b → IsDead (b ++ piece) n
-piece_stops first old start n piece i c l is stuck h b r =
-    let q : piece ≡ take i piece ++ c ∷ drop (suc i) piece = sym (take-append-drop i piece) ∙ ap (λ (z : List ℕ). take i piece ++ z) (drop-cons piece i 0 l ∙ ap (λ (z : ℕ). z ∷ drop (suc i) piece) (sym is)) in
-    subst (λ (z : List ℕ). IsDead z n) (append_assoc b (take i piece) (c ∷ drop (suc i) piece) ∙ ap (λ (z : List ℕ). b ++ z) (sym q)) (is_refused old n (b ++ take i piece) c (drop (suc i) piece) (h b r) stuck)
+-- A part of a piece behind another.
+pub part_read : (first old new : Machine) (start n m i k : ℕ) (piece rest : List ℕ) → rest ≡ drop i piece
+    → ((b : List ℕ) → Reads first start b → Reads old n (b ++ take i piece)) → ((b : List ℕ) → Reads old n b → Reads new m (b ++ take k rest))
+    → (b : List ℕ) → Reads first start b → Reads new m (b ++ take (i + k) piece)
+part_read first old new start n m i k piece rest e before now b h =
+    subst (λ (z : List ℕ). Reads new m z)
+    (append_assoc b (take i piece) (take k rest) ∙ ap (λ (z : List ℕ). b ++ (take i piece ++ take k z)) e ∙ ap (λ (z : List ℕ). b ++ z) (sym (take-add i k piece)))
+    (now (b ++ take i piece) (before b h))
+
+-- The rest of a piece was refused.
+pub rest_refused : (first old : Machine) (start n i : ℕ) (piece rest : List ℕ) (e : JsonRefusal) → rest ≡ drop i piece
+    → ((b : List ℕ) → Reads first start b → Reads old n (b ++ take i piece)) → ((b : List ℕ) → Reads old n b → IsRefused e (b ++ rest))
+    → (b : List ℕ) → Reads first start b → IsRefused e (b ++ piece)
+rest_refused first old start n i piece rest e is before now b h =
+    subst (λ (z : List ℕ). IsRefused e z)
+    (append_assoc b (take i piece) rest ∙ ap (λ (z : List ℕ). b ++ (take i piece ++ z)) is ∙ ap (λ (z : List ℕ). b ++ z) (take-append-drop i piece))
+    (now (b ++ take i piece) (before b h))
 
 -- A decoder that has refused what it was fed.
 pub stands_refused : (o : Option JsonRefusal) (e : JsonRefusal) (machine : Machine) (n : ℕ) (b more : List ℕ) → o ≡ Some e → HasRead o machine n b → IsRefused e (b ++ more)

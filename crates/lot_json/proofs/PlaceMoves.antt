@@ -6,7 +6,7 @@ use Rattle.lot_json.specs.declared.number_token.NumberToken.{NumberToken}
 use Rattle.lot_json.specs.declared.number_token.Place.TheVariants.{Point, Fraction, Exponent, Sign, Power}
 use Rattle.lot_json.specs.Token.{IsDigit, AreDigits, AreSomeDigits, IsExponent, read_on, digits_value}
 use Rattle.lot_json.specs.NumberRest.{NumberRest, RestAt, DecimalsRest, ExponentRest, HasRoom, settled, signed}
-use Rattle.lot_json.specs.NumberSteps.{StepsFrom, IsStuckFrom, CountsDecimal}
+use Rattle.lot_json.specs.NumberSteps.{StepsFrom, CountsDecimal}
 use Rattle.lot_json.proofs.Settled.{settled_far, read_on-le}
 use Rattle.lot_json.proofs.NumberMoves.{heads, exponent_byte, can_end}
 
@@ -59,12 +59,6 @@ fraction_digit c s s' d h = record {
   room = h.room;
 }
 
-pub point_stuck : (c : ℕ) (s : NumberToken) → (IsDigit c → ⊥) → IsStuckFrom (RestAt Point s) c s s
-point_stuck c s no_digit = record {
-  stuck = λ t m r. ⊎_elim (λ (g : Goes AreSomeDigits s c t m). no_digit g.3.0) (λ (z : ⊥ × ExponentRest s (c ∷ t) m). z.0) (decimals_cases AreSomeDigits s c t m r);
-  same = refl;
-}
-
 pub fraction_ends : (c : ℕ) (s : NumberToken) → (IsDigit c → ⊥) → (t : List ℕ) (m : Number) → ExponentRest s (c ∷ t) m ↔ RestAt Fraction s (c ∷ t) m
 fraction_ends c s no_digit t m = (
   λ (e, h, v). ([], c ∷ t, e, tt, h, refl, v),
@@ -81,9 +75,6 @@ exponent_begins c s is = record {
   can_end = can_end (record s { place = Exponent });
   room = λ n h. omega (arith, h);
 }
-
-pub exponent_none : (c : ℕ) (s : NumberToken) → (c ≡ 101 → ⊥) → (c ≡ 69 → ⊥) → IsStuckFrom (ExponentRest s) c s s
-exponent_none c s no_small no_great = record { stuck = λ t m r. ⊎_elim no_small no_great (exponent_byte c t (c ∷ t) r.0 r.1 refl); same = refl }
 
 plus_ahead : (c : ℕ) (s : NumberToken) (t : List ℕ) (m : Number) → c ≡ 43 → RestAt Exponent s (c ∷ t) m → RestAt (Sign false) s t m
 plus_ahead c s t m is (e, inl (a, d, p), v) = (d, subst (λ (z : ℤ). m ≡ settled s [] [] z) p v)
@@ -147,6 +138,3 @@ power_digit c n k minus s room small d is = record {
   can_end = can_end (record s { place = Power minus k });
   room = λ n h. omega (arith, h);
 }
-
-pub power_stuck : (c n : ℕ) (minus : Bool) (s : NumberToken) → (IsDigit c → ⊥) → IsStuckFrom (RestAt (Power minus n) s) c s s
-power_stuck c n minus s no_digit = record { stuck = λ t m r. no_digit r.0.0; same = refl }

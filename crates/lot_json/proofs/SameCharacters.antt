@@ -2,64 +2,10 @@
 use Rattle.std.proofs.Common.{◌≡◌, ℕ, ◌+◌, ◌-◌, ◌*◌, ◌≤◌, ◌<◌, ◌⊎◌, inl, inr, List, [], ◌∷◌, ◌++◌, ap, sym, ◌∙◌, refl, arith, append_assoc}
 use Rattle.std.specs.Char.{IsScalar, encode_utf8}
 use Rattle.std.proofs.Math.Utf8.{scalar_cases}
+use Rattle.std.proofs.lemmas.Str.{encode_same}
 use Rattle.lot_json.specs.Characters.{Characters, close, more, Spelling, plain, short, unit, pair, IsUnescaped, IsShortEscape, IsHexDigit, FourDigits, IsHighSurrogate}
-use Rattle.lot_json.proofs.Utf8.{heads, Shape, one, two, three, four, shape, first_byte}
+use Rattle.lot_json.proofs.Utf8.{heads, shape, first_byte}
 use Rattle.lot_json.proofs.Fronts.{along, regroup}
-
--- ---- characters in UTF-8
-
--- the bounds of the first byte
-abbrev low : {c : ℕ} → Shape c → ℕ
-low (one k e) = 0
-low (two a b k m f s e) = 194
-low (three a b d k m f g s e) = 224
-low (four a b d y k m f g i s e) = 240
-
-abbrev high : {c : ℕ} → Shape c → ℕ
-high (one k e) = 127
-high (two a b k m f s e) = 223
-high (three a b d k m f g s e) = 239
-high (four a b d y k m f g i s e) = 244
-
-record Lead (c : ℕ) (s : Shape c) : Type 0 where
-  byte : ℕ
-  rest : List ℕ
-  spelled : encode_utf8 c ≡ byte ∷ rest
-  above : low s ≤ byte
-  below : byte ≤ high s
-
-lead : (c : ℕ) (s : Shape c) → Lead c s
-lead c (one k e) = record { byte = c; rest = []; spelled = e; above = omega arith; below = omega arith }
-lead c (two a b k m f s e) = record { byte = a; rest = b ∷ []; spelled = e; above = omega (arith, f.0, f.1); below = omega (arith, f.0, f.1) }
-lead c (three a b d k m f g s e) = record { byte = a; rest = b ∷ d ∷ []; spelled = e; above = omega (arith, f.0, f.1, g.0, g.1); below = omega (arith, f.0, f.1, g.0, g.1) }
-lead c (four a b d y k m f g i s e) =
-    record { byte = a; rest = b ∷ d ∷ y ∷ []; spelled = e; above = omega (arith, f.0, f.1, g.0, g.1, i.0, i.1); below = omega (arith, f.0, f.1, g.0, g.1, i.0, i.1) }
-
-meets : (c d : ℕ) (r q : List ℕ) (s : Shape c) (z : Shape d) → encode_utf8 c ++ r ≡ encode_utf8 d ++ q → (low s ≤ high z) × (low z ≤ high s)
-meets c d r q s z e =
-    let a = lead c s in
-    let b = lead d z in
-    let same : a.byte ≡ b.byte = (heads (along r q a.spelled b.spelled e)).0 in
-    (omega (arith, same, a.above, b.below), omega (arith, same, b.above, a.below))
-
-same_shape : (c d : ℕ) (r q : List ℕ) → Shape c → Shape d → encode_utf8 c ++ r ≡ encode_utf8 d ++ q → (c ≡ d) × (r ≡ q)
-same_shape c d r q (one k e) (one l h) s = heads (along r q e h s)
-same_shape c d r q (two a b k m f v e) (two a' b' k' m' f' v' h) s =
-    let i = heads (along r q e h s) in
-    let j = heads i.1 in
-    (omega (arith, i.0, j.0), j.1)
-same_shape c d r q (three a b x k m f g v e) (three a' b' x' k' m' f' g' v' h) s =
-    let i = heads (along r q e h s) in
-    let j = heads i.1 in
-    let l = heads j.1 in
-    (omega (arith, i.0, j.0, l.0), l.1)
-same_shape c d r q (four a b x y k m f g o v e) (four a' b' x' y' k' m' f' g' o' v' h) s =
-    let i = heads (along r q e h s) in
-    let j = heads i.1 in
-    let l = heads j.1 in
-    let n = heads l.1 in
-    (omega (arith, i.0, j.0, l.0, n.0), n.1)
-same_shape c d r q v w s = absurd (omega (arith, (meets c d r q v w s).0, (meets c d r q v w s).1))
 
 -- ---- escapes
 
@@ -98,7 +44,7 @@ not_escape c r t is e = by (first_byte 92 c t r (shape c is.0) (sym e))
     by (inl h) = is.3 (sym h.1)
     by (inr h) = omega (arith, h.1)
 
-not_quote : (c : ℕ) (r t : List ℕ) → IsUnescaped c → encode_utf8 c ++ r ≡ 34 ∷ t → ⊥
+pub not_quote : (c : ℕ) (r t : List ℕ) → IsUnescaped c → encode_utf8 c ++ r ≡ 34 ∷ t → ⊥
 not_quote c r t is e = by (first_byte 34 c t r (shape c is.0) (sym e))
   where
     by : ((c < 128) × (34 ≡ c) × (t ≡ r)) ⊎ ((128 ≤ c) × (194 ≤ 34) × (34 ≤ 244)) → ⊥
@@ -115,8 +61,8 @@ pair_text s e h = e ∙ ap (λ (z : List ℕ). z ++ s) h
 two_on : {a b c d : ℕ} {r q : List ℕ} → a ∷ b ∷ r ≡ c ∷ d ∷ q → (b ≡ d) × (r ≡ q)
 two_on e = heads (heads e).1
 
-same_spelling : {f g : List ℕ} {c d : ℕ} (r q : List ℕ) → Spelling f c → Spelling g d → f ++ r ≡ g ++ q → (c ≡ d) × (r ≡ q)
-same_spelling r q (plain is e) (plain js h) s = same_shape _ _ r q (shape _ is.0) (shape _ js.0) (along r q e h s)
+pub same_spelling : {f g : List ℕ} {c d : ℕ} (r q : List ℕ) → Spelling f c → Spelling g d → f ++ r ≡ g ++ q → (c ≡ d) × (r ≡ q)
+same_spelling r q (plain is e) (plain js h) s = encode_same _ _ r q (along r q e h s)
 same_spelling r q (plain is e) (short l js h) s = absurd (not_escape _ r _ is (along r q e h s))
 same_spelling r q (plain is e) (unit js z) s = absurd (not_escape _ r _ is (along r q e js.2 s))
 same_spelling r q (plain is e) (pair first second u v k a l b h w) s = absurd (not_escape _ r _ is (along r q e (pair_text second h k.2) s))

@@ -188,16 +188,6 @@ lowered_to n k p x e i =
     let a : n / p / 10 ≡ n / 10 ^ (k + 1) = ap (λ (z : ℕ). n / z / 10) e ∙ div-div-eq-div-mul n (10 ^ k) 10 ∙ ap (λ (z : ℕ). n / z) (sym (pow-add 10 k 1)) in
     ap (λ (z : ℕ). z + x) a ∙ ap (λ (z : ℕ). n / 10 ^ (k + 1) + z) (i ∙ ap (λ (z : ℕ). if nat_le 5 (n / z % 10) then 1 else 0) e)
 
-pub size_up : (minus : Bool) (n up down r : ℕ) → down ≤ up → number_of minus r ≡ number_of minus (scaled n (pos (up - down))) → number_of minus r ≡ number_of minus (scaled n (pos up -ℤ pos down))
-size_up minus n up down r h e =
-    let z : pos (up - down) ≡ pos up -ℤ pos down = omega (arith, ints) in
-    e ∙ ap (λ (x : ℤ). number_of minus (scaled n x)) z
-
-pub size_down : (minus : Bool) (n up down r : ℕ) → up < down → r ≡ scaled n (negsuc (down - up - 1)) → number_of minus r ≡ number_of minus (scaled n (pos up -ℤ pos down))
-size_down minus n up down r h e =
-    let z : negsuc (down - up - 1) ≡ pos up -ℤ pos down = omega (arith, ints) in
-    ap (number_of minus) e ∙ ap (λ (x : ℤ). number_of minus (scaled n x)) z
-
 pub number_up : (s : NumberToken) (minus : Bool) (up down power r : ℕ) → minus ≡ false → up ≡ s.dropped + 6 + power → down ≡ s.places
     → number_of s.minus r ≡ number_of s.minus (scaled s.lead (pos up -ℤ pos down)) → number_of s.minus r ≡ settled s [] [] (signed minus power)
 number_up s minus up down power r is a b e =

@@ -1,13 +1,8 @@
 -- Code units by their hexadecimal digits.
-use Rattle.std.proofs.Common.{◌≡◌, ◌↔◌, ℕ, suc, ◌+◌, ◌*◌, ◌<◌, inl, inr, List, [], ◌∷◌, ◌++◌, ap, sym, subst, ◌∙◌, refl, arith}
+use Rattle.std.proofs.Common.{◌≡◌, ◌↔◌, ℕ, suc, ◌+◌, ◌*◌, inl, inr, List, [], ◌∷◌, ◌++◌, ap, sym, subst, ◌∙◌, refl, arith}
 use Rattle.lot_json.specs.Characters.{IsHexDigit, FourDigits}
 use Rattle.lot_json.specs.CodeUnit.{Digits}
 use Rattle.lot_json.proofs.Utf8.{heads}
-
-hex_small : (c w : ℕ) → IsHexDigit c w → w < 16
-hex_small c w (inl h) = omega (arith, h.0, h.1, h.2)
-hex_small c w (inr (inl h)) = omega (arith, h.0, h.1, h.2)
-hex_small c w (inr (inr h)) = omega (arith, h.0, h.1, h.2)
 
 hex_same : (c v w : ℕ) → IsHexDigit c v → IsHexDigit c w → v ≡ w
 hex_same c v w (inl h) (inl k) = omega (arith, h.2, k.2)

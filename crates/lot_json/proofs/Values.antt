@@ -5,7 +5,7 @@ use Rattle.lot_json.specs.declared.number_token.NumberToken.{NumberToken}
 use Rattle.lot_json.specs.declared.text_token.TextToken.{TextToken}
 use Rattle.lot_json.specs.declared.json.Json.{Json}
 use Rattle.lot_json.specs.declared.json.Json.TheVariants as tree
-use Rattle.lot_json.specs.declared.machine.mode.Mode.TheVariants as mode
+use Rattle.lot_json.specs.Reading as reading
 use Rattle.lot_json.specs.declared.machine.word.Word.{Word}
 use Rattle.lot_json.specs.declared.machine.word.Word.TheVariants as word
 use Rattle.lot_json.specs.Token.{Token}
@@ -15,16 +15,17 @@ use Rattle.lot_json.specs.TextRest.{TextRest}
 use Rattle.lot_json.specs.Grammar.{IsSpace, Value, null_value, true_value, false_value, number_value, text_value, array_value, object_value, Element, element_space, element_value, Items, items_close, Members, members_close}
 use Rattle.lot_json.specs.Word.{letters_of, tree_of}
 use Rattle.lot_json.specs.Residual.{Completes, object_of}
-use Rattle.lot_json.proofs.Residual.{heads, Goes, Stops, CanComplete}
+use Rattle.lot_json.proofs.Utf8.{heads}
+use Rattle.lot_json.proofs.Residual.{Goes, Stops, CanComplete}
 use Rattle.lot_json.proofs.Begins.{Begins, begins_space, begins_word, begins_number, begins_text, begins_array, begins_object, element_begins, element_some, text_first, word_first, letter_of}
 
 pub element_can : (n : ℕ) → CanComplete (Element n)
 element_can n = (110 ∷ 117 ∷ 108 ∷ 108 ∷ [], tree.Null, element_value (null_value refl refl))
 
-pub items_can : (n : ℕ) → CanComplete (Completes mode.Items n)
+pub items_can : (n : ℕ) → CanComplete (Completes reading.Items n)
 items_can n = (93 ∷ [], tree.Items [], ([], items_close refl refl, refl))
 
-pub members_can : (n : ℕ) → CanComplete (Completes mode.Members n)
+pub members_can : (n : ℕ) → CanComplete (Completes reading.Members n)
 members_can n = (125 ∷ [], object_of [], ([], members_close refl refl, refl))
 
 -- White space.
@@ -36,7 +37,7 @@ space-ahead n c sp t y (begins_text s e h is) = absurd (omega arith)
 space-ahead n c sp t y (begins_array m xs e d h is) = absurd (omega arith)
 space-ahead n c sp t y (begins_object m ps e d h is) = absurd (omega arith)
 
-pub value_space : (n c : ℕ) → IsSpace c → Goes c (Completes mode.Value n) (Completes mode.Value n)
+pub value_space : (n c : ℕ) → IsSpace c → Goes c (Completes reading.Value n) (Completes reading.Value n)
 value_space n c sp = record {
   some = element_some (128 - n);
   ahead = λ t y h. space-ahead (128 - n) c sp t y (element_begins (128 - n) c t y h);
@@ -44,7 +45,7 @@ value_space n c sp = record {
 }
 
 -- The '[' of an array.
-array-ahead : (n c : ℕ) → c ≡ 91 → n < 128 → (t : List ℕ) (y : Json) → Begins (128 - n) c t y → Completes mode.Items n t y
+array-ahead : (n c : ℕ) → c ≡ 91 → n < 128 → (t : List ℕ) (y : Json) → Begins (128 - n) c t y → Completes reading.Items n t y
 array-ahead n c a d t y (begins_space s h) = absurd (omega arith)
 array-ahead n c a d t y (begins_word w e is) = let q = word_first w c t e in absurd (omega arith)
 array-ahead n c a d t y (begins_number m f h is) = absurd (omega arith)
@@ -52,7 +53,7 @@ array-ahead n c a d t y (begins_text s e h is) = absurd (omega arith)
 array-ahead n c a d t y (begins_array m xs e k h is) = let q : m ≡ 127 - n = omega arith in (xs, subst (λ (z : ℕ). Items z t xs) q h, is)
 array-ahead n c a d t y (begins_object m ps e k h is) = absurd (omega arith)
 
-pub value_array : (n c : ℕ) → c ≡ 91 → n < 128 → Goes c (Completes mode.Value n) (Completes mode.Items n)
+pub value_array : (n c : ℕ) → c ≡ 91 → n < 128 → Goes c (Completes reading.Value n) (Completes reading.Items n)
 value_array n c a d = record {
   some = element_some (128 - n);
   ahead = λ t y h. array-ahead n c a d t y (element_begins (128 - n) c t y h);
@@ -67,14 +68,14 @@ array-deep n c a d t y (begins_text s e h is) = omega arith
 array-deep n c a d t y (begins_array m xs e k h is) = omega arith
 array-deep n c a d t y (begins_object m ps e k h is) = omega arith
 
-pub value_deep_array : (n c : ℕ) → c ≡ 91 → 128 ≤ n → Stops c (Completes mode.Value n)
+pub value_deep_array : (n c : ℕ) → c ≡ 91 → 128 ≤ n → Stops c (Completes reading.Value n)
 value_deep_array n c a d = record {
   some = element_some (128 - n);
   none = λ t y h. array-deep n c a d t y (element_begins (128 - n) c t y h);
 }
 
 -- The '{' of an object.
-object-ahead : (n c : ℕ) → c ≡ 123 → n < 128 → (t : List ℕ) (y : Json) → Begins (128 - n) c t y → Completes mode.Members n t y
+object-ahead : (n c : ℕ) → c ≡ 123 → n < 128 → (t : List ℕ) (y : Json) → Begins (128 - n) c t y → Completes reading.Members n t y
 object-ahead n c a d t y (begins_space s h) = absurd (omega arith)
 object-ahead n c a d t y (begins_word w e is) = let q = word_first w c t e in absurd (omega arith)
 object-ahead n c a d t y (begins_number m f h is) = absurd (omega arith)
@@ -82,7 +83,7 @@ object-ahead n c a d t y (begins_text s e h is) = absurd (omega arith)
 object-ahead n c a d t y (begins_array m xs e k h is) = absurd (omega arith)
 object-ahead n c a d t y (begins_object m ps e k h is) = let q : m ≡ 127 - n = omega arith in (ps, subst (λ (z : ℕ). Members z t ps) q h, is)
 
-pub value_object : (n c : ℕ) → c ≡ 123 → n < 128 → Goes c (Completes mode.Value n) (Completes mode.Members n)
+pub value_object : (n c : ℕ) → c ≡ 123 → n < 128 → Goes c (Completes reading.Value n) (Completes reading.Members n)
 value_object n c a d = record {
   some = element_some (128 - n);
   ahead = λ t y h. object-ahead n c a d t y (element_begins (128 - n) c t y h);
@@ -97,14 +98,14 @@ object-deep n c a d t y (begins_text s e h is) = omega arith
 object-deep n c a d t y (begins_array m xs e k h is) = omega arith
 object-deep n c a d t y (begins_object m ps e k h is) = omega arith
 
-pub value_deep_object : (n c : ℕ) → c ≡ 123 → 128 ≤ n → Stops c (Completes mode.Value n)
+pub value_deep_object : (n c : ℕ) → c ≡ 123 → 128 ≤ n → Stops c (Completes reading.Value n)
 value_deep_object n c a d = record {
   some = element_some (128 - n);
   none = λ t y h. object-deep n c a d t y (element_begins (128 - n) c t y h);
 }
 
 -- The quotation mark of a string.
-text-ahead : (n c : ℕ) (token : TextToken) → c ≡ 34 → ((t s : List ℕ) → Characters t s ↔ TextRest token t s) → (t : List ℕ) (y : Json) → Begins (128 - n) c t y → Completes (mode.Text token) n t y
+text-ahead : (n c : ℕ) (token : TextToken) → c ≡ 34 → ((t s : List ℕ) → Characters t s ↔ TextRest token t s) → (t : List ℕ) (y : Json) → Begins (128 - n) c t y → Completes (reading.Text token) n t y
 text-ahead n c token a k t y (begins_space s h) = absurd (omega arith)
 text-ahead n c token a k t y (begins_word w e is) = let q = word_first w c t e in absurd (omega arith)
 text-ahead n c token a k t y (begins_number m f h is) = absurd (omega arith)
@@ -112,7 +113,7 @@ text-ahead n c token a k t y (begins_text s e h is) = let q = text_first t s h i
 text-ahead n c token a k t y (begins_array m xs e d h is) = absurd (omega arith)
 text-ahead n c token a k t y (begins_object m ps e d h is) = absurd (omega arith)
 
-pub value_text : (n c : ℕ) (token : TextToken) → c ≡ 34 → ((t s : List ℕ) → Characters t s ↔ TextRest token t s) → Goes c (Completes mode.Value n) (Completes (mode.Text token) n)
+pub value_text : (n c : ℕ) (token : TextToken) → c ≡ 34 → ((t s : List ℕ) → Characters t s ↔ TextRest token t s) → Goes c (Completes reading.Value n) (Completes (reading.Text token) n)
 value_text n c token a k = record {
   some = element_some (128 - n);
   ahead = λ t y h. text-ahead n c token a k t y (element_begins (128 - n) c t y h);
@@ -141,7 +142,7 @@ letter_is word.Null = inr (inl refl)
 letter_is word.True = inr (inr refl)
 letter_is word.False = inl refl
 
-word-ahead : (n c : ℕ) (w : Word) → c ≡ letter_of w → (t : List ℕ) (y : Json) → Begins (128 - n) c t y → Completes (mode.Word w 1) n t y
+word-ahead : (n c : ℕ) (w : Word) → c ≡ letter_of w → (t : List ℕ) (y : Json) → Begins (128 - n) c t y → Completes (reading.Word w 1) n t y
 word-ahead n c w a t y (begins_space s h) = let q = letter_is w in absurd (omega arith)
 word-ahead n c w a t y (begins_word v e is) =
     let k = same_word w v t (ap (λ (z : ℕ). z ∷ t) (sym a) ∙ e) in
@@ -158,18 +159,18 @@ word_value n word.Null b y e is = null_value e is
 word_value n word.True b y e is = true_value e is
 word_value n word.False b y e is = false_value e is
 
-pub value_word : (n c : ℕ) (w : Word) → c ≡ letter_of w → Goes c (Completes mode.Value n) (Completes (mode.Word w 1) n)
+pub value_word : (n c : ℕ) (w : Word) → c ≡ letter_of w → Goes c (Completes reading.Value n) (Completes (reading.Word w 1) n)
 value_word n c w a = record {
   some = element_some (128 - n);
   ahead = λ t y h. word-ahead n c w a t y (element_begins (128 - n) c t y h);
   back = λ t y h. element_value (word_value (128 - n) w (c ∷ t) y (ap (λ (z : ℕ). z ∷ t) a ∙ ap (λ (z : List ℕ). letter_of w ∷ z) h.3 ∙ (rest_of_word w).3) h.4);
 }
 
-pub word_can : (n : ℕ) (w : Word) → CanComplete (Completes (mode.Word w 1) n)
+pub word_can : (n : ℕ) (w : Word) → CanComplete (Completes (reading.Word w 1) n)
 word_can n w = let q = rest_of_word w in (drop 1 (letters_of w), tree_of w, (q.0, q.1, q.2, refl, refl))
 
 -- The first byte of a number.
-number-ahead : (n c : ℕ) (token : NumberToken) → IsFirstOfNumber c → ((t : List ℕ) (m : Number) → Token (c ∷ t) m ↔ NumberRest token t m) → (t : List ℕ) (y : Json) → Begins (128 - n) c t y → Completes (mode.Number token) n t y
+number-ahead : (n c : ℕ) (token : NumberToken) → IsFirstOfNumber c → ((t : List ℕ) (m : Number) → Token (c ∷ t) m ↔ NumberRest token t m) → (t : List ℕ) (y : Json) → Begins (128 - n) c t y → Completes (reading.Number token) n t y
 number-ahead n c token a k t y (begins_space s h) = absurd (omega arith)
 number-ahead n c token a k t y (begins_word w e is) = let q = word_first w c t e in absurd (omega arith)
 number-ahead n c token a k t y (begins_number m f h is) = (m, (k t m).0 h, is)
@@ -177,7 +178,7 @@ number-ahead n c token a k t y (begins_text s e h is) = absurd (omega arith)
 number-ahead n c token a k t y (begins_array m xs e d h is) = absurd (omega arith)
 number-ahead n c token a k t y (begins_object m ps e d h is) = absurd (omega arith)
 
-pub value_number : (n c : ℕ) (token : NumberToken) → IsFirstOfNumber c → ((t : List ℕ) (m : Number) → Token (c ∷ t) m ↔ NumberRest token t m) → Goes c (Completes mode.Value n) (Completes (mode.Number token) n)
+pub value_number : (n c : ℕ) (token : NumberToken) → IsFirstOfNumber c → ((t : List ℕ) (m : Number) → Token (c ∷ t) m ↔ NumberRest token t m) → Goes c (Completes reading.Value n) (Completes (reading.Number token) n)
 value_number n c token a k = record {
   some = element_some (128 - n);
   ahead = λ t y h. number-ahead n c token a k t y (element_begins (128 - n) c t y h);
@@ -202,7 +203,7 @@ other-none n c o k t y (begins_text s e h is) = o.text e
 other-none n c o k t y (begins_array m xs e d h is) = o.array e
 other-none n c o k t y (begins_object m ps e d h is) = o.object e
 
-pub value_none : (n c : ℕ) → IsOther c → ((t : List ℕ) (m : Number) → Token (c ∷ t) m → ⊥) → Stops c (Completes mode.Value n)
+pub value_none : (n c : ℕ) → IsOther c → ((t : List ℕ) (m : Number) → Token (c ∷ t) m → ⊥) → Stops c (Completes reading.Value n)
 value_none n c o k = record {
   some = element_some (128 - n);
   none = λ t y h. other-none n c o k t y (element_begins (128 - n) c t y h);

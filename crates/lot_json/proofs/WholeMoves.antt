@@ -5,7 +5,7 @@ use Rattle.lot_json.specs.declared.number_token.NumberToken.{NumberToken}
 use Rattle.lot_json.specs.declared.number_token.Place.TheVariants.{Start, Zero, Whole, Point}
 use Rattle.lot_json.specs.Token.{IsDigit, AreDigits, IsWhole, IsFraction, IsExponent}
 use Rattle.lot_json.specs.NumberRest.{NumberRest, RestAt, WholeRest, ExponentRest, HasRoom, settled}
-use Rattle.lot_json.specs.NumberSteps.{StepsFrom, IsStuckFrom, CountsWhole}
+use Rattle.lot_json.specs.NumberSteps.{StepsFrom, CountsWhole}
 use Rattle.lot_json.proofs.NumberMoves.{heads, exponent_byte, can_end}
 
 fraction_digits : (f d : List ℕ) → IsFraction f d → AreDigits d
@@ -120,12 +120,6 @@ whole_digit c s s' d h = record {
 pub first_whole : (c : ℕ) (whole : List ℕ) → IsWhole (c ∷ whole) → IsDigit c
 first_whole c [] h = h
 first_whole c (b ∷ whole) h = (omega (arith, h.0), h.1)
-
-pub start_stuck : (c : ℕ) (s : NumberToken) → (IsDigit c → ⊥) → IsStuckFrom (RestAt Start s) c s s
-start_stuck c s no_digit = record {
-  stuck = λ t m r. ⊎_elim (λ (g : Goes IsWhole s c t m). no_digit (first_whole c g.0 g.5)) (λ (z : ⊥ × RestAt Zero s (c ∷ t) m). z.0) (whole_cases IsWhole s c t m r);
-  same = refl;
-}
 
 pub whole_ends : (c : ℕ) (s : NumberToken) → (IsDigit c → ⊥) → (t : List ℕ) (m : Number) → RestAt Zero s (c ∷ t) m ↔ RestAt Whole s (c ∷ t) m
 whole_ends c s no_digit t m = (

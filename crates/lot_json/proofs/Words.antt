@@ -1,39 +1,29 @@
 -- Within a word: what a byte does, by the letter that comes.
-use Rattle.std.proofs.Common.{◌≡◌, ◌≢◌, ℕ, ◌+◌, ◌<◌, ◌≤◌, List, [], ◌∷◌, length, drop, get_or, drop-cons, drop_of_length-le, add-one, sym, ◌∙◌, ap, subst, arith}
+use Rattle.std.proofs.Common.{◌≡◌, ℕ, ◌+◌, ◌<◌, ◌≤◌, List, [], ◌∷◌, length, drop, get_or, drop-cons, drop_of_length-le, add-one, sym, ◌∙◌, ap, subst, arith}
 use Rattle.lot_json.specs.declared.json.Json.{Json}
-use Rattle.lot_json.specs.declared.machine.mode.Mode.TheVariants as mode
+use Rattle.lot_json.specs.Reading as reading
 use Rattle.lot_json.specs.declared.machine.word.Word.{Word}
 use Rattle.lot_json.specs.Word.{letters_of, tree_of}
 use Rattle.lot_json.specs.Residual.{Completes}
-use Rattle.lot_json.proofs.Residual.{heads, Goes, Ends, Stops, CanComplete}
-use Rattle.lot_json.proofs.Tokens.{word_goes, word_goes_can, word_ended, word_stops}
+use Rattle.lot_json.proofs.Residual.{Goes, Ends, CanComplete}
+use Rattle.lot_json.proofs.Tokens.{word_goes, word_goes_can, word_ended}
 
 -- The letters from the next one on.
 next_letter : (w : Word) (read : ℕ) (letters : List ℕ) → letters ≡ letters_of w → read < length letters → drop read (letters_of w) ≡ get_or letters read 0 ∷ drop (read + 1) (letters_of w)
 next_letter w read letters e h = subst (λ (z : List ℕ). drop read z ≡ get_or letters read 0 ∷ drop (read + 1) z) e (drop-cons letters read 0 h ∙ ap (λ (z : ℕ). get_or letters read 0 ∷ drop z letters) (sym (add-one read)))
 
--- No letter is left.
-pub word_past : (w : Word) (read n c : ℕ) (letters : List ℕ) → letters ≡ letters_of w → length letters ≤ read → Stops c (Completes (mode.Word w read) n)
-word_past w read n c letters e h =
-    let none : drop read (letters_of w) ≡ [] = subst (λ (z : List ℕ). drop read z ≡ []) e (drop_of_length-le letters h) in
-    word_stops w read n c (λ t k. let q : c ∷ t ≡ [] = sym k ∙ none in cc)
-
--- Another letter comes.
-pub word_other : (w : Word) (read n c : ℕ) (letters : List ℕ) → letters ≡ letters_of w → read < length letters → get_or letters read 0 ≢ c → Stops c (Completes (mode.Word w read) n)
-word_other w read n c letters e h a = word_stops w read n c (λ t k. a (heads (sym (next_letter w read letters e h) ∙ k)).0)
-
 -- The letter comes that the word has there, and others follow.
-pub word_on : (w : Word) (read n c : ℕ) (letters : List ℕ) → letters ≡ letters_of w → read + 1 < length letters → get_or letters read 0 ≡ c → Goes c (Completes (mode.Word w read) n) (Completes (mode.Word w (read + 1)) n)
+pub word_on : (w : Word) (read n c : ℕ) (letters : List ℕ) → letters ≡ letters_of w → read + 1 < length letters → get_or letters read 0 ≡ c → Goes c (Completes (reading.Word w read) n) (Completes (reading.Word w (read + 1)) n)
 word_on w read n c letters e h a =
     word_goes w read n c (get_or letters (read + 1) 0) (drop (read + 1 + 1) (letters_of w))
     (next_letter w read letters e (omega arith) ∙ ap (λ (z : ℕ). z ∷ drop (read + 1) (letters_of w)) a) (next_letter w (read + 1) letters e h)
 
-pub word_on_can : (w : Word) (read n : ℕ) (letters : List ℕ) → letters ≡ letters_of w → read + 1 < length letters → CanComplete (Completes (mode.Word w (read + 1)) n)
+pub word_on_can : (w : Word) (read n : ℕ) (letters : List ℕ) → letters ≡ letters_of w → read + 1 < length letters → CanComplete (Completes (reading.Word w (read + 1)) n)
 word_on_can w read n letters e h = word_goes_can w (read + 1) n (get_or letters (read + 1) 0) (drop (read + 1 + 1) (letters_of w)) (next_letter w (read + 1) letters e h)
 
 -- The last letter comes.
-pub word_at_end : (w : Word) (read n c : ℕ) (letters : List ℕ) (tree : Json) → letters ≡ letters_of w → read < length letters → length letters ≤ read + 1 → get_or letters read 0 ≡ c → tree ≡ tree_of w → Ends c (Completes (mode.Word w read) n) tree
+pub word_at_end : (w : Word) (read n c : ℕ) (letters : List ℕ) (tree : Json) → letters ≡ letters_of w → read < length letters → length letters ≤ read + 1 → get_or letters read 0 ≡ c → tree ≡ tree_of w → Ends c (Completes (reading.Word w read) n) tree
 word_at_end w read n c letters tree e h k a is =
     let none : drop (read + 1) (letters_of w) ≡ [] = subst (λ (z : List ℕ). drop (read + 1) z ≡ []) e (drop_of_length-le letters k) in
-    subst (λ (z : Json). Ends c (Completes (mode.Word w read) n) z) (sym is)
+    subst (λ (z : Json). Ends c (Completes (reading.Word w read) n) z) (sym is)
     (word_ended w read n c (next_letter w read letters e h ∙ ap (λ (z : ℕ). z ∷ drop (read + 1) (letters_of w)) a ∙ ap (λ (z : List ℕ). c ∷ z) none))

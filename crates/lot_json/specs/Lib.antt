@@ -1,6 +1,7 @@
 pub mod Token
 pub mod Characters
 pub mod Then
+pub mod Plain
 pub mod CodeUnit
 pub mod ByteSequence
 pub mod Part
@@ -11,6 +12,7 @@ pub mod NumberRest
 pub mod NumberSteps
 pub mod TextRest
 pub mod Word
+pub mod Reading
 pub mod Residual
 pub mod Refusal
 pub mod Stands

@@ -6,6 +6,10 @@ use Rattle.lot_json.specs.declared.number_token.Place.{Place}
 use Rattle.lot_json.specs.declared.number_token.Place.TheVariants.{Start, Zero, Whole, Point, Fraction, Exponent, Sign, Power}
 use Rattle.lot_json.specs.Token.{IsDigit, AreDigits, AreSomeDigits, IsWhole, IsFraction, IsExponent, IsPower, read_on, micro}
 
+-- The token before any digit, behind a minus or not.
+abbrev pub nothing : Bool → NumberToken
+nothing minus = record { minus = minus; place = Start; lead = 0; dropped = 0; places = 0 }
+
 -- An exponent's number: its digits stand for n.
 abbrev pub signed : Bool → ℕ → ℤ
 signed minus n = if minus then pos 0 -ℤ pos n else pos n

@@ -6,14 +6,15 @@ use Rattle.lot_json.specs.declared.machine.state.Machine.{Machine}
 use Rattle.lot_json.specs.declared.decoder.Decoder.{Decoder}
 use Rattle.lot_json.specs.Grammar.{Text}
 use Rattle.lot_json.specs.Refusal.{IsRefused}
+use Rattle.lot_json.specs.Reading.{state_of}
 use Rattle.lot_json.specs.Residual.{Left, CanEnd}
 
 -- The machine has read the bytes b: what it still has to read are their continuations to a text.
 pub record Reads (machine : Machine) (taken : ℕ) (b : List ℕ) : Type 0 where
   pub counted : taken ≡ min (length b) (2 ^ 64 - 1)
-  pub ahead : (r : List ℕ) (x : Json) → Text (b ++ r) x → Left machine r x
-  pub back : (r : List ℕ) (x : Json) → Left machine r x → Text (b ++ r) x
-  pub live : CanEnd machine
+  pub ahead : (r : List ℕ) (x : Json) → Text (b ++ r) x → Left (state_of machine) r x
+  pub back : (r : List ℕ) (x : Json) → Left (state_of machine) r x → Text (b ++ r) x
+  pub live : CanEnd (state_of machine)
 
 -- The decoder has read the bytes b, or has refused them.
 abbrev pub HasRead : Option JsonRefusal → Machine → ℕ → List ℕ → Type 0

@@ -1,6 +1,6 @@
 ghost use Rattle.std.specs.Prelude.{◌≡◌, ◌++◌, [], List, ℕ, Err, IfOk, OnOk, IfErr};
 
-use crate::machine::Machine;
+use crate::machine::{Advance, Machine};
 use crate::{Json, JsonRefusal};
 use lot_types::Memory;
 use std::alloc::Global;
@@ -9,7 +9,6 @@ use std::alloc::Global;
 /// behind a byte order mark, with at most 128 arrays and objects open at once.
 #[derive(Drop)]
 pub struct Decoder {
-    alloc: Global,
     machine: Machine,
     taken: u64,
     refusal: Option<JsonRefusal>,
@@ -26,7 +25,6 @@ impl Decoder {
         ensures { IfOk result (λ decoder. StandsFor decoder []) }
     {
         Ok(Decoder {
-            alloc,
             machine: Machine::new(alloc),
             taken: 0,
             refusal: None,
@@ -64,7 +62,6 @@ impl Decoder {
             machine,
             taken,
             refusal,
-            ..
         } = self;
         if let Some(refusal) = refusal {
             return Err(refusal);
@@ -81,11 +78,18 @@ impl Decoder {
         ensures refused { IfErr result (λ e. (b : List ℕ) → Reads self.old.machine self.old.taken b → IsRefused e (b ++ piece.now)) }
         ensures same { self.new.refusal ≡ self.old.refusal }
     {
-        for c in piece {
-            if !self.machine.step(self.alloc, *c)? {
-                return Err(JsonRefusal::Syntax(self.taken));
+        let mut at = 0;
+        while at < piece.len() {
+            let advance = self.machine.advance(&piece[at..])?;
+            match advance {
+                Advance::Goes(read) => {
+                    self.taken = self.taken.saturating_add(read as u64);
+                    at += read;
+                }
+                Advance::Stuck(read) => {
+                    return Err(JsonRefusal::Syntax(self.taken.saturating_add(read as u64)));
+                }
             }
-            self.taken = self.taken.saturating_add(1);
         }
         Ok(())
     }

@@ -1,9 +1,11 @@
-//! JSON texts by RFC 8259, in this project's profile: read byte by byte into a tree, with the exact place of a fault.
+//! JSON texts by RFC 8259, in this project's profile: read from pieces of any lengths into a tree, with the exact
+//! place of a fault.
 #![tactic(auto)]
 
 mod byte_sequence;
 mod code_unit;
 mod decoder;
+mod front;
 mod json;
 mod laws;
 mod machine;
@@ -12,6 +14,7 @@ mod number_token;
 mod one_tree;
 mod parser;
 mod part;
+mod plain;
 mod pointer;
 mod refusal;
 mod step;

@@ -1,4 +1,4 @@
-ghost use Rattle.std.specs.Prelude.{◌≡◌, ◌↔◌, ◌<◌, ◌≤◌, ◌+◌, ◌-◌, ◌-ℤ◌, ◌^◌, pos, negsuc, [], ◌∷◌, List, ℕ, ℤ, Bool, IfSome, IfNone, IsTrue};
+ghost use Rattle.std.specs.Prelude.{◌≡◌, ◌↔◌, ◌<◌, ◌≤◌, ◌+◌, ◌-◌, ◌-ℤ◌, ◌^◌, pos, negsuc, [], ◌∷◌, List, ℕ, ℤ, Bool, IfSome, IfNone, IsTrue, false};
 ghost use Rattle.std.specs.Bool.{OnTrue, OnFalse};
 ghost use Rattle.lot_json.specs.declared.number.Number.{Number};
 ghost use Rattle.lot_json.specs.Token.{Token, IsDigit, number_of, scaled};
@@ -53,58 +53,48 @@ const LARGEST: u64 = 10_000_000_000_000;
 
 impl NumberToken {
     ghost use Rattle.lot_json.specs.declared.number_token.Place.TheVariants.{Power};
-    ghost use Rattle.lot_json.specs.NumberRest.{NumberRest, CanEndNumber, HasRoom, IsNumberByte, IsFirstOfNumber, RestAt, ExponentRest, PowerRest, settled, signed};
+    ghost use Rattle.lot_json.specs.NumberRest.{NumberRest, CanEndNumber, HasRoom, IsNumberByte, IsFirstOfNumber, RestAt, ExponentRest, PowerRest, nothing, settled, signed};
     ghost use Rattle.lot_json.specs.NumberSteps.{CountsWhole, CountsDecimal, Takes};
 
-    /// The token that begins with this byte. `None` exactly where no number token does.
-    pub(crate) fn begin(c: u8) -> Option<NumberToken>
-        ensures begins { IfSome result (λ s. (t : List ℕ) (m : Number) → Token (c ∷ t) m ↔ NumberRest s t m) }
-        ensures first { IfSome result (λ s. IsFirstOfNumber c) }
-        ensures can_end { IfSome result CanEndNumber }
-        ensures room { IfSome result (HasRoom 1) }
-        ensures none { IfNone result ((t : List ℕ) (m : Number) → Token (c ∷ t) m → ⊥) }
+    /// The token of which nothing was read.
+    #[inline(always)]
+    pub(crate) fn new() -> NumberToken
+        ensures { result ≡ nothing false }
     {
-        let minus = c == b'-';
-        let mut token = NumberToken {
-            minus,
+        NumberToken {
+            minus: false,
             place: Place::Start,
             lead: 0,
             dropped: 0,
             places: 0,
-        };
-        if minus {
-            return Some(token);
         }
-        if token.start(c) { Some(token) } else { None }
+    }
+
+    /// Begins anew with this byte, and tells whether a number token begins with it. The token lies where it was made: a
+    /// copy of it costs more than a digit.
+    #[inline(always)]
+    pub(crate) fn begin(&mut self, c: u8) -> bool
+        ensures begins { OnTrue result ((t : List ℕ) (m : Number) → Token (c ∷ t) m ↔ NumberRest self.new t m) }
+        ensures first { OnTrue result (IsFirstOfNumber c) }
+        ensures can_end { OnTrue result (CanEndNumber self.new) }
+        ensures room { HasRoom 1 self.new }
+        ensures none { OnFalse result ((t : List ℕ) (m : Number) → Token (c ∷ t) m → ⊥) }
+    {
+        let minus = c == b'-';
+        self.minus = minus;
+        self.place = Place::Start;
+        self.lead = 0;
+        self.dropped = 0;
+        self.places = 0;
+        if minus {
+            return true;
+        }
+        self.start(c)
     }
 
     /// Takes one byte more, and tells whether it belongs to the token. Where it does not the token stays as it was.
+    #[inline(always)]
     pub(crate) fn take(&mut self, c: u8) -> bool
-        requires room { HasRoom (2 ^ 62) self.old }
-        ensures goes { OnTrue result ((t : List ℕ) (m : Number) → NumberRest self.old (c ∷ t) m ↔ NumberRest self.new t m) }
-        ensures byte { OnTrue result (IsNumberByte c) }
-        ensures can_end { OnTrue result (CanEndNumber self.new) }
-        ensures room { (n : ℕ) → HasRoom n self.old → HasRoom (n + 1) self.new }
-        ensures stuck { OnFalse result ((t : List ℕ) (m : Number) → NumberRest self.old (c ∷ t) m → ⊥) }
-        ensures same { OnFalse result (self.new ≡ self.old) }
-    {
-        self.step(c)
-    }
-
-    /// The number, if the token may end here.
-    pub(crate) fn value(&self) -> Option<Number>
-        ensures whole { IfSome result (λ n. (m : Number) → NumberRest self.now [] m ↔ (m ≡ n)) }
-        ensures part { IfNone result ((m : Number) → NumberRest self.now [] m → ⊥) }
-    {
-        match self.place {
-            Place::Zero | Place::Whole | Place::Fraction => Some(self.number(false, 0)),
-            Place::Power { minus, power } => Some(self.number(minus, power)),
-            _ => None,
-        }
-    }
-
-    /// As `take`, with the room that the longest slice needs.
-    pub(crate) fn step(&mut self, c: u8) -> bool
         requires { HasRoom (2 ^ 63) self.old }
         ensures { Takes result (NumberRest self.old) c self.old self.new }
     {
@@ -120,7 +110,21 @@ impl NumberToken {
         }
     }
 
+    /// The number, if the token may end here.
+    #[inline(always)]
+    pub(crate) fn value(&self) -> Option<Number>
+        ensures whole { IfSome result (λ n. (m : Number) → NumberRest self.now [] m ↔ (m ≡ n)) }
+        ensures part { IfNone result ((m : Number) → NumberRest self.now [] m → ⊥) }
+    {
+        match self.place {
+            Place::Zero | Place::Whole | Place::Fraction => Some(self.number(false, 0)),
+            Place::Power { minus, power } => Some(self.number(minus, power)),
+            _ => None,
+        }
+    }
+
     /// Takes the first digit of the whole part.
+    #[inline(always)]
     fn start(&mut self, c: u8) -> bool
         requires { HasRoom (2 ^ 63) self.old }
         ensures { Takes result (RestAt Place.Start self.old) c self.old self.new }
@@ -138,6 +142,7 @@ impl NumberToken {
     }
 
     /// Takes a digit of the whole part, or what may stand behind it.
+    #[inline(always)]
     fn whole(&mut self, c: u8) -> bool
         requires { HasRoom (2 ^ 63) self.old }
         ensures { Takes result (RestAt Place.Whole self.old) c self.old self.new }
@@ -151,6 +156,7 @@ impl NumberToken {
     }
 
     /// Takes what may stand behind the whole part: the point or the exponent.
+    #[inline(always)]
     fn behind_whole(&mut self, c: u8) -> bool
         ensures { Takes result (RestAt Place.Zero self.old) c self.old self.new }
     {
@@ -230,6 +236,7 @@ impl NumberToken {
     }
 
     /// Keeps a digit of the whole part, or drops it where fifteen are kept.
+    #[inline(always)]
     fn count_whole(&mut self, c: u8)
         requires digit { IsDigit c }
         requires room { HasRoom (2 ^ 63) self.old }
@@ -255,6 +262,7 @@ impl NumberToken {
     }
 
     /// The number of the token that ends here with this power of ten.
+    #[inline(always)]
     fn number(&self, minus: bool, power: u64) -> Number
         ensures { result ≡ settled self.now [] [] (signed minus power) }
     {
@@ -275,6 +283,7 @@ fn is_digit(c: u8) -> bool
 }
 
 /// The magnitude `lead * 10^(up - down)`, rounded; or another that is out of range where that is.
+#[inline(always)]
 fn size(lead: u64, up: u128, down: u128) -> u64
     ensures { (minus : Bool) → number_of minus result ≡ number_of minus (scaled lead (pos up -ℤ pos down)) }
 {
@@ -285,6 +294,7 @@ fn size(lead: u64, up: u128, down: u128) -> u64
 }
 
 /// `lead * 10^by`, or another magnitude that is out of range where that is.
+#[inline(always)]
 fn raised(lead: u64, by: u128) -> u64
     ensures { (minus : Bool) → number_of minus result ≡ number_of minus (scaled lead (pos by)) }
 {
@@ -310,6 +320,7 @@ fn lowered(lead: u64, by: u128) -> u64
 }
 
 /// The number of millionths of this magnitude and sign.
+#[inline(always)]
 fn with_sign(minus: bool, size: u64) -> Number
     ensures { result ≡ number_of minus size }
 {

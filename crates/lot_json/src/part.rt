@@ -1,4 +1,4 @@
-ghost use Rattle.std.specs.Prelude.{◌≡◌, ◌≢◌, IsTrue, ◌+◌, ◌-◌, ◌*◌, ◌<◌, ◌≤◌, ◌∷◌, ℕ, List};
+ghost use Rattle.std.specs.Prelude.{◌≡◌, ◌+◌, ◌-◌, ◌*◌, ◌<◌, ◌≤◌, ◌∷◌, ℕ, List};
 ghost use Rattle.std.specs.Char.{IsScalar};
 ghost use Rattle.lot_json.specs.Characters.{Characters};
 ghost use Rattle.lot_json.specs.Then.{Then};
@@ -56,19 +56,6 @@ impl Part {
             Part::Low { high, low } => low_digit(high, low, c),
             Part::Bytes(sequence) => continue_bytes(sequence, c),
         }
-    }
-}
-
-/// Whether a byte is a whole character that stands for itself.
-#[inline]
-pub(crate) fn is_plain(c: u8) -> bool
-    ensures { IsTrue result → (32 ≤ c) × (c < 128) × (c ≢ 34) × (c ≢ 92) }
-{
-    match c {
-        0x5D..=0x7F => true,
-        0x23..=0x5B => true,
-        0x20..=0x21 => true,
-        _ => false,
     }
 }
 

@@ -15,9 +15,12 @@ pub fn number(bytes: &[u8]) -> Option<Number>
     ensures none { IfNone result ((m : Number) → Token bytes.now m → ⊥) }
 {
     let (first, rest) = bytes.split_first()?;
-    let mut token = NumberToken::begin(*first)?;
+    let mut token = NumberToken::new();
+    if !token.begin(*first) {
+        return None;
+    }
     for c in rest {
-        if !token.step(*c) {
+        if !token.take(*c) {
             return None;
         }
     }

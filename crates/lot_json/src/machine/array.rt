@@ -1,47 +1,54 @@
-ghost use Rattle.std.specs.Prelude.{◌≡◌, List, IfOk};
+ghost use Rattle.std.specs.Prelude.{◌≡◌, ◌<◌, IfOk, length};
 
 use crate::Json;
-use crate::machine::{Machine, Mode, Open, is_space};
+use crate::machine::{Advance, Machine, Mode, Open, is_space};
 use lot_types::{Memory, Seq};
-use std::alloc::Global;
-use std::mem;
 
 impl Machine {
-    ghost use Rattle.lot_json.specs.declared.json.Json.{Json};
-    ghost use Rattle.lot_json.specs.Residual.{Answers};
+    ghost use Rattle.lot_json.specs.Reading.{state_of};
+    ghost use Rattle.lot_json.specs.Residual.{Advances, Answers};
 
-    /// Reads a byte behind the `[` of an array.
-    pub(crate) fn items(&mut self, alloc: Global, c: u8) -> Result<bool, Memory>
-        requires { self.old.mode ≡ Mode.Items }
-        ensures { IfOk result (λ goes. Answers goes c self.old self.new) }
+    /// Reads on behind the `[` of an array.
+    pub(crate) fn items(&mut self, bytes: &[u8]) -> Result<Advance, Memory>
+        requires mode { self.old.mode ≡ Mode.Items }
+        requires some { 0 < length bytes.now }
+        ensures { IfOk result (λ a. Advances a bytes.now (state_of self.old) (state_of self.new)) }
     {
+        let c = bytes[0];
         if is_space(c) {
-            return Ok(true);
+            return Ok(Advance::Goes(1));
         }
         if c == b']' {
-            self.put(Json::Items(Seq::new(alloc)))?;
-            return Ok(true);
+            self.put(Json::Items(Seq::new(self.alloc)))?;
+            return Ok(Advance::Goes(1));
         }
-        self.enter(Open::Array(Seq::new(alloc)))?;
-        Ok(self.value(alloc, c))
+        self.enter(Open::Array(Seq::new(self.alloc)))?;
+        self.turn_to(Mode::Value);
+        let advance = self.value(bytes)?;
+        Ok(advance)
     }
 
     /// Reads a byte behind an item of an array.
+    #[inline(always)]
     pub(crate) fn after_item(&mut self, c: u8) -> Result<bool, Memory>
-        ensures { (items : List Json) → self.old.mode ≡ Mode.AfterItem items → IfOk result (λ goes. Answers goes c self.old self.new) }
+        requires { self.old.mode ≡ Mode.AfterItem }
+        ensures { IfOk result (λ goes. Answers goes c (state_of self.old) (state_of self.new)) }
     {
         if is_space(c) {
             return Ok(true);
         }
-        let Mode::AfterItem(items) = mem::replace(&mut self.mode, Mode::Value) else {
-            return Ok(false);
-        };
         match c {
             b',' => {
-                self.wait(Open::Array(items))?;
+                let Some(Open::Array(_)) = self.stack.last() else {
+                    return Ok(false);
+                };
+                self.turn_to(Mode::Value);
                 Ok(true)
             }
             b']' => {
+                let Some(Open::Array(items)) = self.stack.pop() else {
+                    return Ok(false);
+                };
                 self.put(Json::Items(items))?;
                 Ok(true)
             }

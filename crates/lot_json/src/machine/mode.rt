@@ -1,9 +1,9 @@
 use crate::Json;
 use crate::machine::{NumberSoFar, Word};
 use crate::text_token::TextToken;
-use lot_types::{Seq, Text};
 
-/// What is being read of the innermost value. White space may come first, except within a byte order mark or a token.
+/// What is being read within the innermost array or object, or of the root. White space may come first, except within a
+/// byte order mark or a token.
 #[derive(Drop)]
 pub(crate) enum Mode {
     /// Nothing was read: a byte order mark or a value comes.
@@ -14,20 +14,20 @@ pub(crate) enum Mode {
     MarkThird,
     /// A value comes.
     Value,
-    /// Behind the `[` of an array: an item or the `]` comes.
+    /// Behind the `[` of an array, which is not with the open ones yet: an item or the `]` comes.
     Items,
-    /// Behind an item of an array with these items: a `,` or the `]` comes.
-    AfterItem(Seq<Json>),
-    /// Behind the `{` of an object: a name or the `}` comes.
+    /// Behind an item of the innermost array: a `,` or the `]` comes.
+    AfterItem,
+    /// Behind the `{` of an object, which is not with the open ones yet: a name or the `}` comes.
     Members,
-    /// Behind a `,` of an object with these members: a name comes.
-    NextMember(Seq<(Text, Json)>),
-    /// In a name, behind these members.
-    Name(Seq<(Text, Json)>, TextToken),
-    /// Behind this name, behind these members: a `:` comes.
-    Colon(Seq<(Text, Json)>, Text),
-    /// Behind a member of an object with these members: a `,` or the `}` comes.
-    AfterMember(Seq<(Text, Json)>),
+    /// Behind a `,` of the innermost object: a name comes.
+    NextMember,
+    /// In a name of the innermost object.
+    Name(TextToken),
+    /// Behind a name of the innermost object: a `:` comes.
+    Colon,
+    /// Behind a member of the innermost object: a `,` or the `}` comes.
+    AfterMember,
     /// In a string.
     Text(TextToken),
     /// In a number.

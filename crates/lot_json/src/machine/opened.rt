@@ -1,11 +1,11 @@
 use crate::Json;
 use lot_types::{Seq, Text};
 
-/// An array or an object that is open, and of which a value is being read.
+/// An array or an object that is open.
 #[derive(Drop)]
 pub(crate) enum Open {
-    /// An array, with the items before that value.
+    /// An array, with its items so far.
     Array(Seq<Json>),
-    /// An object, with the members before the one of that value, and the name of that one.
-    Member(Seq<(Text, Json)>, Text),
+    /// An object, with its members so far, and the name of the one that is being read.
+    Object(Seq<(Text, Json)>, Text),
 }

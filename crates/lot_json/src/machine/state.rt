@@ -1,75 +1,72 @@
-ghost use Rattle.std.specs.Prelude.{◌≡◌, ◌↔◌, ◌∷◌, [], ℕ, List, IfOk, OnOk};
+ghost use Rattle.std.specs.Prelude.{◌≡◌, ◌↔◌, ◌<◌, ◌∷◌, ℕ, List, IfOk, OnOk, length};
 
 use crate::Json;
-use crate::machine::{Mode, Open, is_space};
-use lot_types::Memory;
+use crate::machine::{Advance, Mode, Open, is_space};
+use lot_types::{Memory, Text};
 use std::alloc::Global;
+use std::mem;
 
-/// What is being read, and the arrays and objects that wait for it, the innermost last.
+/// What is being read, and the arrays and objects that are open, the innermost last.
 #[derive(Drop)]
 pub(crate) struct Machine {
+    pub(crate) alloc: Global,
     pub(crate) mode: Mode,
     pub(crate) stack: Vec<Open>,
 }
 
 impl Machine {
     ghost use Rattle.lot_json.specs.declared.json.Json.{Json};
-    ghost use Rattle.lot_json.specs.Grammar.{Text};
-    ghost use Rattle.lot_json.specs.Residual.{Left, Answers, PutsValue, IsBehindValue, stack_of};
+    ghost use Rattle.lot_json.specs.Grammar as grammar;
+    ghost use Rattle.lot_json.specs.Reading.{stack_of, state_of};
+    ghost use Rattle.lot_json.specs.Residual.{Left, Advances, Answers, PutsValue, IsBehindValue};
 
     /// The machine that has read nothing.
     pub(crate) fn new(alloc: Global) -> Machine
-        ensures { (r : List ℕ) (x : Json) → Text r x ↔ Left result r x }
+        ensures { (r : List ℕ) (x : Json) → grammar.Text r x ↔ Left (state_of result) r x }
     {
         Machine {
+            alloc,
             mode: Mode::Start,
             stack: Vec::new(alloc),
         }
     }
 
-    /// Reads one byte, and tells whether a text may go on with it. Where none does, or for want of memory, the machine may only be dropped.
-    pub(crate) fn step(&mut self, alloc: Global, c: u8) -> Result<bool, Memory>
-        ensures { IfOk result (λ goes. Answers goes c self.old self.new) }
+    /// Reads some of the bytes, at least one where a text may go on with it. Where none does, or for want of memory, the
+    /// machine may only be dropped.
+    pub(crate) fn advance(&mut self, bytes: &[u8]) -> Result<Advance, Memory>
+        requires { 0 < length bytes.now }
+        ensures { IfOk result (λ a. Advances a bytes.now (state_of self.old) (state_of self.new)) }
     {
+        let c = bytes[0];
         match &self.mode {
-            Mode::Start => Ok(self.start(alloc, c)),
-            Mode::MarkSecond => Ok(self.mark_second(c)),
-            Mode::MarkThird => Ok(self.mark_third(c)),
-            Mode::Value => Ok(self.value(alloc, c)),
-            Mode::Items => self.items(alloc, c),
-            Mode::AfterItem(_) => self.after_item(c),
-            Mode::Members => self.members(alloc, c),
-            Mode::NextMember(_) => Ok(self.next_member(alloc, c)),
-            Mode::Name(_, _) => self.name(c),
-            Mode::Colon(_, _) => self.colon(c),
-            Mode::AfterMember(_) => self.after_member(c),
-            Mode::Text(_) => self.text(c),
-            Mode::Number(_) => self.number(c),
+            Mode::Start => self.start(bytes),
+            Mode::MarkSecond => Ok(Advance::tried(0, self.mark_second(c))),
+            Mode::MarkThird => Ok(Advance::tried(0, self.mark_third(c))),
+            Mode::Value => self.value(bytes),
+            Mode::Items => self.items(bytes),
+            Mode::AfterItem => Ok(Advance::tried(0, self.after_item(c)?)),
+            Mode::Members => self.members(bytes),
+            Mode::NextMember => self.next_member(bytes),
+            Mode::Name(_) => self.name(bytes),
+            Mode::Colon => Ok(Advance::tried(0, self.colon(c))),
+            Mode::AfterMember => Ok(Advance::tried(0, self.after_member(c)?)),
+            Mode::Text(_) => self.text(bytes),
+            Mode::Number(_) => self.open_number(bytes),
             Mode::Word(word, read) => {
                 let word = *word;
                 let read = *read;
-                self.word(word, read, c)
+                Ok(Advance::tried(0, self.word(word, read, c)?))
             }
-            Mode::Done(_) => Ok(is_space(c)),
+            Mode::Done(_) => Ok(Advance::tried(0, is_space(c))),
         }
     }
 
-    /// Begins to read a value within an array or an object.
-    pub(crate) fn enter(&mut self, outer: Open) -> Result<(), Memory>
-        ensures mode { OnOk result (self.new.mode ≡ Mode.Value) }
-        ensures stack { OnOk result (stack_of self.new ≡ outer ∷ stack_of self.old) }
-    {
-        self.wait(outer)?;
-        self.turn_to(Mode::Value);
-        Ok(())
-    }
-
-    /// Puts an array or an object with those that wait, as the innermost.
-    pub(crate) fn wait(&mut self, outer: Open) -> Result<(), Memory>
+    /// Opens an array or an object within those that are open.
+    pub(crate) fn enter(&mut self, inner: Open) -> Result<(), Memory>
         ensures mode { OnOk result (self.new.mode ≡ self.old.mode) }
-        ensures stack { OnOk result (stack_of self.new ≡ outer ∷ stack_of self.old) }
+        ensures stack { OnOk result (stack_of self.new ≡ inner ∷ stack_of self.old) }
     {
-        self.stack.push(outer)?;
+        self.stack.push(inner)?;
         Ok(())
     }
 
@@ -83,36 +80,38 @@ impl Machine {
     }
 
     /// Puts a value that is complete where it belongs.
+    #[inline(always)]
     pub(crate) fn put(&mut self, value: Json) -> Result<(), Memory>
-        ensures puts { OnOk result (PutsValue value self.old self.new) }
+        ensures puts { OnOk result (PutsValue value (stack_of self.old) (state_of self.new)) }
         ensures behind { OnOk result (IsBehindValue self.new.mode) }
     {
-        match self.stack.pop() {
-            None => {
-                self.turn_to(Mode::Done(value));
-                Ok(())
-            }
-            Some(Open::Array(mut items)) => {
+        let Some(inner) = self.stack.last_mut() else {
+            self.turn_to(Mode::Done(value));
+            return Ok(());
+        };
+        match inner {
+            Open::Array(items) => {
                 items.push(value)?;
-                self.turn_to(Mode::AfterItem(items));
-                Ok(())
+                self.turn_to(Mode::AfterItem);
             }
-            Some(Open::Member(mut pairs, name)) => {
-                pairs.push((name, value))?;
-                self.turn_to(Mode::AfterMember(pairs));
-                Ok(())
+            Open::Object(members, name) => {
+                let name = mem::replace(name, Text::new(self.alloc));
+                members.push((name, value))?;
+                self.turn_to(Mode::AfterMember);
             }
         }
+        Ok(())
     }
 
     /// Reads a byte behind a value that was put where it belongs.
+    #[inline(always)]
     pub(crate) fn behind_value(&mut self, c: u8) -> Result<bool, Memory>
         requires { IsBehindValue self.old.mode }
-        ensures { IfOk result (λ goes. Answers goes c self.old self.new) }
+        ensures { IfOk result (λ goes. Answers goes c (state_of self.old) (state_of self.new)) }
     {
         match &self.mode {
-            Mode::AfterItem(_) => self.after_item(c),
-            Mode::AfterMember(_) => self.after_member(c),
+            Mode::AfterItem => self.after_item(c),
+            Mode::AfterMember => self.after_member(c),
             _ => Ok(is_space(c)),
         }
     }

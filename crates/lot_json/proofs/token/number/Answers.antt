@@ -8,20 +8,20 @@ use Rattle.lot_json.proofs.EndMoves.{only_number, no_number}
 use Rattle.std.proofs.Math.ListN.{drop_of_length-le}
 use Rattle.lot_json.proofs.token.number.Goals as goal
 
-pub returns-in_err-token-clause-none : goal.returns-in_err-token-clause-none
-returns-in_err-token-clause-none c =
+pub returns-then-not-begin-clause-none : goal.returns-then-not-begin-clause-none
+returns-then-not-begin-clause-none c =
     let none : (t : List ℕ) (m : Number) → Token (c.in_ok-first.first.now ∷ t) m → ⊥ = search rules in
-    rw c.from_residual-in_err-token.ensures (λ m k. none c.in_ok-first.rest.now m (subst (λ (z : List ℕ). Token z m) c.in_ok-first.ensures.cases.0 k))
+    λ m k. none c.in_ok-first.rest.now m (subst (λ (z : List ℕ). Token z m) c.in_ok-first.ensures.cases.0 k)
 
-pub step-requires : goal.step-requires
-step-requires c =
+pub take-requires : goal.take-requires
+take-requires c =
     let short : length c.in_ok-first.rest.now < 2 ^ 63 = search rules in
     HasRoom-le (c.loop-c.c-index + 1) (2 ^ 63) _ (omega arith) c.loop-c.invariant.1
 
-pub returns-then-not-step-clause-none : goal.returns-then-not-step-clause-none
-returns-then-not-step-clause-none c =
+pub returns-then-not-take-clause-none : goal.returns-then-not-take-clause-none
+returns-then-not-take-clause-none c =
     λ m k.
-    let h : IsStuckFrom (NumberRest c.loop-c.token) (get_or c.in_ok-first.rest.now c.loop-c.c-index 0) c.loop-c.token c.step.new.self = search rules in
+    let h : IsStuckFrom (NumberRest c.loop-c.token) (get_or c.in_ok-first.rest.now c.loop-c.c-index 0) c.loop-c.token c.take.new.self = search rules in
     let e = drop-cons c.in_ok-first.rest.now c.loop-c.c-index 0 c.loop-c-test.true in
     h.stuck _ m (subst (λ (z : List ℕ). NumberRest c.loop-c.token z m) e ((c.loop-c.invariant.0 m).0 k))
 

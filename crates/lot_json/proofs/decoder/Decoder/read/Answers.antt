@@ -1,16 +1,38 @@
-use Rattle.std.proofs.Common.{refl}
-use Rattle.lot_json.proofs.Pieces.{piece_goes, piece_stops}
+use Rattle.std.proofs.Common.{◌≤◌, ◌-◌, length, length-drop, take, drop, ap, subst, arith}
+use Rattle.std.proofs.lemmas.List.{take_rest}
+use Rattle.lot_json.specs.declared.refusal.JsonRefusal.TheVariants as refusal
+use Rattle.lot_json.specs.declared.machine.advance.Advance.{Advance}
+use Rattle.lot_json.specs.declared.machine.advance.Advance.TheVariants as advance
+use Rattle.lot_json.specs.Reading.{state_of}
+use Rattle.lot_json.specs.Residual.{Advances}
+use Rattle.lot_json.proofs.Pieces.{part_read, rest_refused, goes_to, is_refused}
 use Rattle.lot_json.proofs.decoder.Decoder.read.Goals as goal
 
-pub returns-then-not-branch-clause-refused : goal.returns-then-not-branch-clause-refused
-returns-then-not-branch-clause-refused c =
-    let stuck = rw c.if-not-branch.true at c.in_ok-step.ensures in
-    piece_stops c.args.self.now.machine c.loop-c.self.machine c.args.self.now.taken c.loop-c.self.taken c.args.piece.now c.loop-c.c-index _ c.loop-c-test.true refl stuck c.loop-c.invariant.reads
+pub loop-at-preserved : goal.loop-at-preserved
+loop-at-preserved c =
+    let piece = c.args.piece.now in
+    let at = c.loop-at.at in
+    let rest = take (length piece - at) (drop at piece) in
+    let old = state_of c.loop-at.self.machine in
+    let new = state_of c.advance.new.self in
+    let goes : Advances (advance.Goes c.in-Goes.read) rest old new = subst (λ (z : Advance). Advances z rest old new) c.in-Goes.is c.in_ok-advance.ensures in
+    let l = length-drop at piece in
+    let within : c.in-Goes.read ≤ length piece - at = omega (arith, goes.within, ap length (take_rest piece at), l) in (
+      record {
+        reads = part_read c.args.self.now.machine c.loop-at.self.machine c.advance.new.self c.args.self.now.taken c.loop-at.self.taken c.saturating_add-self.result at c.in-Goes.read piece rest (take_rest piece at) c.loop-at.invariant.0.reads
+            (goes_to c.loop-at.self.machine c.advance.new.self c.loop-at.self.taken c.saturating_add-self.result c.in-Goes.read rest goes c.saturating_add-self.ensures);
+        same = c.loop-at.invariant.0.same;
+      },
+      omega (arith, within, c.loop-at.invariant.1),
+    )
 
-pub loop-c-preserved : goal.loop-c-preserved
-loop-c-preserved c =
-    let steps = rw c.if-not-branch.false at c.in_ok-step.ensures in
-    record {
-      reads = piece_goes c.args.self.now.machine c.loop-c.self.machine c.step.new.self c.args.self.now.taken c.loop-c.self.taken c.saturating_add-self.result c.args.piece.now c.loop-c.c-index _ c.loop-c-test.true refl steps c.saturating_add-self.ensures c.loop-c.invariant.reads;
-      same = c.loop-c.invariant.same;
-    }
+pub returns-in-Stuck-clause-refused : goal.returns-in-Stuck-clause-refused
+returns-in-Stuck-clause-refused c =
+    let piece = c.args.piece.now in
+    let at = c.loop-at.at in
+    let rest = take (length piece - at) (drop at piece) in
+    let old = state_of c.loop-at.self.machine in
+    let new = state_of c.advance.new.self in
+    let breaks : Advances (advance.Stuck c.in-Stuck.read) rest old new = subst (λ (z : Advance). Advances z rest old new) c.in-Stuck.is c.in_ok-advance.ensures in
+    rest_refused c.args.self.now.machine c.loop-at.self.machine c.args.self.now.taken c.loop-at.self.taken at piece rest (refusal.Syntax c.saturating_add.result) (take_rest piece at) c.loop-at.invariant.0.reads
+    (λ b h. is_refused c.loop-at.self.machine c.loop-at.self.taken c.saturating_add.result c.in-Stuck.read b rest h breaks c.saturating_add.ensures)

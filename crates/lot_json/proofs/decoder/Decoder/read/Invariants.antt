@@ -1,4 +1,4 @@
-use Rattle.std.proofs.Common.{◌≡◌, ◌++◌, List, ℕ, take}
+use Rattle.std.proofs.Common.{◌≡◌, ◌≤◌, ◌-◌, ◌++◌, List, ℕ, length, take}
 use Rattle.std.proofs.Common.{Option}
 use Rattle.lot_json.specs.declared.machine.state.Machine.{Machine}
 use Rattle.lot_json.specs.declared.refusal.JsonRefusal.{JsonRefusal}
@@ -10,5 +10,8 @@ pub record IsReading (first : Machine) (start : ℕ) (before : Option JsonRefusa
   pub reads : (b : List ℕ) → Reads first start b → Reads now taken (b ++ read)
   pub same : after ≡ before
 
-abbrev pub invariant-loop-c : goal.invariant-loop-c
-invariant-loop-c l = IsReading l.initial.self.machine l.initial.self.taken l.initial.self.refusal l.self.machine l.self.taken l.self.refusal (take l.c-index l.piece)
+abbrev pub invariant-loop-at : goal.invariant-loop-at
+invariant-loop-at l = IsReading l.initial.self.machine l.initial.self.taken l.initial.self.refusal l.self.machine l.self.taken l.self.refusal (take l.at l.piece) × (l.at ≤ length l.piece)
+
+abbrev pub decreases-loop-at : goal.decreases-loop-at
+decreases-loop-at l = length l.piece - l.at

@@ -1,9 +1,8 @@
 use Rattle.std.proofs.Common.{rules, nat_eq, lit≤}
 use Rattle.lot_json.specs.declared.number_token.Place.TheVariants.{Start}
-use Rattle.lot_json.specs.NumberRest.{HasRoom, RestAt}
-use Rattle.lot_json.specs.NumberSteps.{StepsFrom, IsStuckFrom}
-use Rattle.lot_json.proofs.NumberMoves.{can_end}
-use Rattle.lot_json.proofs.BeginMoves.{nothing, begin_minus, begin_other}
+use Rattle.lot_json.specs.NumberRest.{HasRoom, RestAt, nothing}
+use Rattle.lot_json.proofs.NumberMoves.{can_end, room_after}
+use Rattle.lot_json.proofs.BeginMoves.{begin_minus, first_digit, no_digit}
 use Rattle.lot_json.proofs.number_token.NumberToken.begin.Goals as goal
 
 pub returns-then-minus-clause-begins : goal.returns-then-minus-clause-begins
@@ -20,12 +19,14 @@ pub start-requires : goal.start-requires
 unfolding HasRoom
 start-requires c = lit≤ tt
 
-pub returns-then-start-clause-begins : goal.returns-then-start-clause-begins
-returns-then-start-clause-begins c = λ t m. let h : StepsFrom (RestAt Start (nothing (nat_eq c.args.c 45))) c.args.c (nothing (nat_eq c.args.c 45)) c.start.new.self = search rules in let k = begin_other c.args.c (nat_eq c.args.c 45) c.if-minus.false (search rules) t m in (λ r. (h.goes t m).0 (k.0 r), λ r. k.1 ((h.goes t m).1 r))
+pub returns-clause-begins : goal.returns-clause-begins
+returns-clause-begins c = first_digit c.start.result c.args.c (nat_eq c.args.c 45) c.start.new.self c.if-minus.false (search rules) c.start.ensures
 
-pub returns-then-start-clause-room : goal.returns-then-start-clause-room
+pub returns-clause-room : goal.returns-clause-room
 unfolding HasRoom
-returns-then-start-clause-room c = let h : StepsFrom (RestAt Start (nothing (nat_eq c.args.c 45))) c.args.c (nothing (nat_eq c.args.c 45)) c.start.new.self = search rules in h.room 0 (lit≤ tt)
+returns-clause-room c =
+    let minus = nat_eq c.args.c 45 in
+    room_after c.start.result (RestAt Start (nothing minus)) c.args.c (nothing minus) c.start.new.self c.start.ensures 0 (lit≤ tt)
 
-pub returns-else-start-clause-none : goal.returns-else-start-clause-none
-returns-else-start-clause-none c = λ t m r. let h : IsStuckFrom (RestAt Start (nothing (nat_eq c.args.c 45))) c.args.c (nothing (nat_eq c.args.c 45)) c.start.new.self = search rules in h.stuck t m ((begin_other c.args.c (nat_eq c.args.c 45) c.if-minus.false (search rules) t m).0 r)
+pub returns-clause-none : goal.returns-clause-none
+returns-clause-none c = no_digit c.start.result c.args.c (nat_eq c.args.c 45) c.start.new.self c.if-minus.false (search rules) c.start.ensures

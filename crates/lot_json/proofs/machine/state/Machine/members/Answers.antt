@@ -1,26 +1,47 @@
-use Rattle.std.proofs.Common.{◌≡◌, [], length, refl, sym, ◌∙◌, ap, subst, arith}
+use Rattle.std.proofs.Common.{◌≡◌, List, [], ◌∷◌, length, get_or, refl, ap, subst, ◌∙◌}
 use Rattle.lot_json.specs.declared.json.Json.{Json}
-use Rattle.lot_json.specs.declared.json.Json.TheVariants as tree
+use Rattle.lot_json.specs.declared.machine.advance.Advance.TheVariants as advance
 use Rattle.lot_json.specs.declared.machine.mode.Mode.TheVariants as mode
-use Rattle.lot_json.specs.Residual.{stack_of, Completes}
-use Rattle.lot_json.proofs.Residual.{Ends, steps_within, steps_put, stuck_by, yes_of, no_of}
+use Rattle.lot_json.specs.declared.machine.opened.Open.{Open}
+use Rattle.lot_json.specs.declared.machine.opened.Open.TheVariants as opened
+use Rattle.lot_json.specs.Reading as reading
+use Rattle.lot_json.specs.Reading.{State, at, shown, stack_of, state_of}
+use Rattle.lot_json.specs.Residual.{Advances, PutsValue, object_of}
+use Rattle.lot_json.proofs.Residual.{steps_within, steps_put, yes_of}
+use Rattle.lot_json.proofs.Moves.{moves, leaves, same_from}
 use Rattle.lot_json.proofs.Values.{members_can}
-use Rattle.lot_json.proofs.Tokens.{open_text}
-use Rattle.lot_json.proofs.Objects.{object_is, Pairs, members_spaced, members_closed, members_name, members_stops, name_can}
+use Rattle.lot_json.proofs.Objects.{Pairs, members_spaced, members_closed, members_next, object_is}
+use Rattle.lot_json.proofs.Advances.{first_goes, advances_same}
 use Rattle.lot_json.proofs.machine.state.Machine.members.Goals as goal
 
 pub returns-then-is_space : goal.returns-then-is_space
-returns-then-is_space c = steps_within c.args.c c.args.self.now _ mode.Members mode.Members c.requires c.requires refl (members_spaced (length (stack_of c.args.self.now)) c.args.c (yes_of _ _ c.is_space.ensures c.if-is_space.true)) (members_can _)
+returns-then-is_space c =
+    let old = c.args.self.now in
+    let stack = stack_of old in
+    let first = get_or c.args.bytes.now 0 0 in
+    first_goes c.args.bytes.now (state_of old) (state_of old) c.requires.some
+    (moves (first ∷ []) old old mode.Members mode.Members stack c.requires.mode c.requires.mode refl
+    (steps_within first reading.Members reading.Members stack (members_spaced (length stack) first (yes_of _ _ c.is_space.ensures c.if-is_space.true)) (members_can (length stack))))
 
-pub returns-in-34 : goal.returns-in-34
-returns-in-34 c =
-    let turned : c.turn_to.new.self.mode ≡ mode.Name [] c.new-in-34.result = c.turn_to.ensures.turned ∙ ap (λ (z : Pairs). mode.Name z c.new-in-34.result) c.new.ensures in
-    steps_within c.args.c c.args.self.now _ mode.Members (mode.Name [] c.new-in-34.result) c.requires turned c.turn_to.ensures.stack (members_name _ (length (stack_of c.args.self.now)) c.args.c c.in-34.is c.new-in-34.ensures.begins) (name_can [] _ (length (stack_of c.args.self.now)) c.new-in-34.ensures.can_end (open_text _ c.new-in-34.ensures.begins))
+pub returns-in_ok-read-in-34 : goal.returns-in_ok-read-in-34
+returns-in_ok-read-in-34 c =
+    let old = c.args.self.now in
+    let stack = stack_of old in
+    let bytes = c.args.bytes.now in
+    let first = get_or bytes 0 0 in
+    let new = state_of c.begin_name.new.self in
+    let opens : stack_of c.enter.new.self ≡ opened.Object [] c.new-in-34.result ∷ stack = c.in_ok-enter-in-34.ensures.stack ∙ ap (λ (z : Pairs). opened.Object z c.new-in-34.result ∷ stack) c.new.ensures in
+    let reads : Advances (advance.Goes c.in_ok-read-in-34.read) bytes (at (reading.NextMember []) stack) new = subst (λ (z : List Open). Advances (advance.Goes c.in_ok-read-in-34.read) bytes (shown mode.NextMember z) new) opens c.in_ok-read-in-34.ensures in
+    advances_same (advance.Goes c.in_ok-read-in-34.read) bytes (state_of old) (at (reading.NextMember []) stack) new c.requires.some
+    (same_from first old mode.Members (at (reading.NextMember []) stack) c.requires.mode (members_next first stack c.in-34.is)) reads
 
 pub returns-in_ok-put-in-125 : goal.returns-in_ok-put-in-125
 returns-in_ok-put-in-125 c =
-    steps_put c.args.c c.args.self.now _ _ mode.Members (tree.Members c.of.result) c.requires refl
-    (subst (λ (z : Json). Ends c.args.c (Completes mode.Members (length (stack_of c.args.self.now))) z) (sym (object_is c.of.result [] (c.of.ensures ∙ c.new-in-125.ensures))) (members_closed (length (stack_of c.args.self.now)) c.args.c c.in-125.is)) c.in_ok-put-in-125.ensures.puts
-
-pub returns-in_default : goal.returns-in_default
-returns-in_default c = stuck_by c.args.c c.args.self.now mode.Members c.requires (members_stops (length (stack_of c.args.self.now)) c.args.c (no_of _ _ c.is_space.ensures c.if-is_space.false) (omega arith) (omega arith))
+    let old = c.args.self.now in
+    let stack = stack_of old in
+    let first = get_or c.args.bytes.now 0 0 in
+    let new = state_of c.put.new.self in
+    first_goes c.args.bytes.now (state_of old) new c.requires.some
+    (leaves (first ∷ []) old mode.Members stack new c.requires.mode refl
+    (steps_put first reading.Members stack new (object_of []) (members_closed (length stack) first c.in-125.is)
+    (subst (λ (z : Json). PutsValue z stack new) (object_is c.of.result [] (c.of.ensures ∙ c.new-in-125.ensures)) c.in_ok-put-in-125.ensures.puts)))

@@ -1,27 +1,35 @@
-use Rattle.std.proofs.Common.{length, refl}
-use Rattle.lot_json.specs.declared.machine.mode.Mode.TheVariants as mode
-use Rattle.lot_json.specs.Residual.{stack_of}
-use Rattle.lot_json.proofs.Residual.{steps_by, answers_same, stuck_by}
-use Rattle.lot_json.proofs.Tokens.{number_goes, number_same, number_stops_so}
+use Rattle.std.proofs.Common.{◌<◌, false, length, get_or, refl, arith}
+use Rattle.lot_json.specs.declared.machine.advance.Advance.TheVariants as advance
+use Rattle.lot_json.specs.Reading as reading
+use Rattle.lot_json.specs.Reading.{at, stack_of, state_of}
+use Rattle.lot_json.proofs.Residual.{answers_same, stuck_by}
+use Rattle.lot_json.proofs.Tokens.{number_same, number_stops}
+use Rattle.lot_json.proofs.Advances.{tried}
 use Rattle.lot_json.proofs.machine.state.Machine.number.Goals as goal
 
-pub returns-then-branch : goal.returns-then-branch
-returns-then-branch c = λ token e.
-    let goes = rw c.if-branch.true at c.in_ok-take.ensures.goes in
-    let byte = rw c.if-branch.true at c.in_ok-take.ensures.byte in
-    let can_end = rw c.if-branch.true at c.in_ok-take.ensures.can_end in
-    steps_by c.args.c c.args.self.now _ (mode.Number c.in-Number.number) (mode.Number c.take.new.self) (stack_of c.args.self.now) c.in-Number.is refl refl (number_goes c.in-Number.number c.take.new.self c.args.c byte goes can_end (stack_of c.args.self.now))
+pub returns-in_default : goal.returns-in_default
+returns-in_default c = λ start h.
+    let stack = stack_of c.args.self.now in
+    let token = c.take_from.new.self in
+    let bytes = c.args.bytes.now in
+    let read = c.in_ok-read.read in
+    let next : read < length bytes = omega (arith, c.in_ok-read.ensures.within, c.if-read-bytes.false) in
+    let here = at (reading.Number token) stack in
+    tried false (advance.Stuck read) read bytes start here start refl next (c.in_ok-read.ensures.steps start stack h)
+    (stuck_by (get_or bytes read 0) (reading.Number token) stack (number_stops token (length stack) (get_or bytes read 0) (c.in_ok-read.ensures.stuck next) c.in_default.ensures.part))
 
-pub returns-in_ok-goes-in-Some : goal.returns-in_ok-goes-in-Some
-returns-in_ok-goes-in-Some c = λ token e.
-    let stuck = rw c.if-branch.false at c.in_ok-take.ensures.stuck in
-    let same = rw c.if-branch.false at c.in_ok-take.ensures.same in
-    answers_same c.in_ok-goes-in-Some.goes c.args.c c.args.self.now c.put.new.self c.behind_value.new.self
-    (number_same c.args.c c.args.self.now (record { mode = mode.Number c.take.new.self; stack = c.args.self.now.stack }) c.put.new.self c.in-Number.number c.take.new.self c.in-Some.m c.in-Number.is refl same stuck c.in-Some.ensures.whole c.in_ok-put-in-Some.ensures.puts)
-    c.in_ok-goes-in-Some.ensures
-
-pub returns-in-None : goal.returns-in-None
-returns-in-None c = λ token e.
-    let stuck = rw c.if-branch.false at c.in_ok-take.ensures.stuck in
-    let same = rw c.if-branch.false at c.in_ok-take.ensures.same in
-    stuck_by c.args.c c.args.self.now (mode.Number c.in-Number.number) c.in-Number.is (number_stops_so c.in-Number.number c.take.new.self (length (stack_of c.args.self.now)) c.args.c same stuck c.in-None.ensures.part)
+pub returns : goal.returns
+returns c = λ start h.
+    let stack = stack_of c.args.self.now in
+    let token = c.take_from.new.self in
+    let bytes = c.args.bytes.now in
+    let read = c.in_ok-read.read in
+    let next : read < length bytes = omega (arith, c.in_ok-read.ensures.within, c.if-read-bytes.false) in
+    let here = at (reading.Number token) stack in
+    let put = state_of c.put.new.self in
+    let byte = get_or bytes read 0 in
+    tried c.in_ok-goes.goes c.tried.result read bytes start here (state_of c.behind_value.new.self) c.tried.ensures next
+    (c.in_ok-read.ensures.steps start stack h)
+    (answers_same c.in_ok-goes.goes byte here put (state_of c.behind_value.new.self)
+    (number_same byte put token token c.in-Some.value stack refl (c.in_ok-read.ensures.stuck next) c.in-Some.ensures.whole c.in_ok-put.ensures.puts)
+    c.in_ok-goes.ensures)

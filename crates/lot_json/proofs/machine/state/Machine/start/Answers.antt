@@ -1,16 +1,31 @@
-use Rattle.std.proofs.Common.{length}
+use Rattle.std.proofs.Common.{◌-◌, [], ◌∷◌, length, get_or}
 use Rattle.lot_json.specs.declared.machine.mode.Mode.TheVariants as mode
-use Rattle.lot_json.specs.Residual.{stack_of}
-use Rattle.lot_json.proofs.Residual.{steps_within, same_by, answers_same}
-use Rattle.lot_json.proofs.Tokens.{start_mark, start_value-ahead, start_value-back, mark_second_can}
+use Rattle.lot_json.specs.Reading as reading
+use Rattle.lot_json.specs.Reading.{at, stack_of, state_of}
+use Rattle.lot_json.proofs.Residual.{steps_within, same_by}
+use Rattle.lot_json.proofs.Moves.{moves, same}
 use Rattle.lot_json.proofs.Values.{element_can}
+use Rattle.lot_json.proofs.Tokens.{start_mark, mark_second_can, start_value-ahead, start_value-back}
+use Rattle.lot_json.proofs.Advances.{first_goes, advances_same}
 use Rattle.lot_json.proofs.machine.state.Machine.start.Goals as goal
 
-pub returns-then-c-eq239 : goal.returns-then-c-eq239
-returns-then-c-eq239 c = steps_within c.args.c c.args.self.now _ mode.Start mode.MarkSecond c.requires c.turn_to.ensures.turned c.turn_to.ensures.stack (start_mark (length (stack_of c.args.self.now)) c.args.c c.if-c-eq239.true) (mark_second_can _)
+pub returns-then-bytes : goal.returns-then-bytes
+returns-then-bytes c =
+    let old = c.args.self.now in
+    let stack = stack_of old in
+    let first = get_or c.args.bytes.now 0 0 in
+    let new = c.turn_to.new.self in
+    first_goes c.args.bytes.now (state_of old) (state_of new) c.requires.some
+    (moves (first ∷ []) old new mode.Start mode.MarkSecond stack c.requires.mode c.turn_to.ensures.turned c.turn_to.ensures.stack
+    (steps_within first reading.Start reading.MarkSecond stack (start_mark (length stack) first c.if-bytes.true) (mark_second_can (length stack))))
 
 pub returns : goal.returns
 returns c =
-    let same = same_by c.args.c c.args.self.now c.turn_to-2.new.self mode.Start mode.Value (stack_of c.args.self.now) c.requires c.turn_to-2.ensures.turned c.turn_to-2.ensures.stack
-    (start_value-ahead c.args.c c.if-c-eq239.false (stack_of c.args.self.now)) (start_value-back c.args.c (stack_of c.args.self.now)) (element_can _) in
-    answers_same _ _ _ _ _ same c.value.ensures
+    let old = c.args.self.now in
+    let stack = stack_of old in
+    let first = get_or c.args.bytes.now 0 0 in
+    let mid = c.turn_to-2.new.self in
+    advances_same c.in_ok-advance.advance c.args.bytes.now (state_of old) (state_of mid) (state_of c.value.new.self) c.requires.some
+    (same first old mid mode.Start mode.Value stack c.requires.mode c.turn_to-2.ensures.turned c.turn_to-2.ensures.stack
+    (same_by first reading.Start stack reading.Value stack (start_value-ahead first c.if-bytes.false stack) (start_value-back first stack) (element_can (128 - length stack))))
+    c.in_ok-advance.ensures

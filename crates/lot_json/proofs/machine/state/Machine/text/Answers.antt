@@ -1,25 +1,46 @@
-use Rattle.std.proofs.Common.{length, refl, subst}
+use Rattle.std.proofs.Common.{◌+◌, true, false, length, take, get_or, refl, subst}
+use Rattle.lot_json.specs.declared.front.Front.{Front}
+use Rattle.lot_json.specs.declared.front.Front.TheVariants as front
 use Rattle.lot_json.specs.declared.json.Json.TheVariants as tree
+use Rattle.lot_json.specs.declared.machine.advance.Advance.TheVariants as advance
 use Rattle.lot_json.specs.declared.machine.mode.Mode.TheVariants as mode
-use Rattle.lot_json.specs.Residual.{stack_of}
-use Rattle.lot_json.specs.declared.step.Step.{Step}
-use Rattle.lot_json.specs.declared.step.Step.TheVariants as step
-use Rattle.lot_json.specs.TextRest.{TakesByte, text_of}
-use Rattle.lot_json.proofs.Residual.{steps_within, steps_put, stuck_by}
-use Rattle.lot_json.proofs.Tokens.{text_can, text_goes, text_ended, text_stops}
+use Rattle.lot_json.specs.Reading as reading
+use Rattle.lot_json.specs.Reading.{at, stack_of, state_of}
+use Rattle.lot_json.specs.TextRest.{TakesFront, text_of}
+use Rattle.lot_json.proofs.Residual.{steps_put, stuck_by}
+use Rattle.lot_json.proofs.Moves.{leaves}
+use Rattle.lot_json.proofs.Tokens.{text_run, text_ended, text_stops}
+use Rattle.lot_json.proofs.Advances.{all_go, tried}
 use Rattle.lot_json.proofs.machine.state.Machine.text.Goals as goal
 
 pub returns-in-Goes : goal.returns-in-Goes
 returns-in-Goes c = λ token e.
-    let takes : TakesByte c.args.c step.Goes c.in-Text.token c.take.new.self = subst (λ (z : Step). TakesByte c.args.c z c.in-Text.token c.take.new.self) c.in-Goes.is c.in_ok-take.ensures in
-    steps_within c.args.c c.args.self.now _ (mode.Text c.in-Text.token) (mode.Text c.take.new.self) c.in-Text.is refl refl (text_goes c.in-Text.token c.take.new.self (length (stack_of c.args.self.now)) c.args.c takes) (text_can _ (length (stack_of c.args.self.now)) takes.1 takes.2)
+    let old = c.args.self.now in
+    let bytes = c.args.bytes.now in
+    let takes : TakesFront bytes (front.Goes c.in-Goes.read) c.in-Text.token c.take_front.new.self = subst (λ (z : Front). TakesFront bytes z c.in-Text.token c.take_front.new.self) c.in-Goes.is c.in_ok-read.ensures in
+    all_go c.in-Goes.read bytes (state_of old) _ takes.0 c.requires
+    (leaves bytes old (mode.Text c.in-Text.token) (stack_of old) _ c.in-Text.is refl (text_run bytes c.in-Text.token c.take_front.new.self (stack_of old) takes.1))
 
 pub returns-in_ok-end_text-in-Ends : goal.returns-in_ok-end_text-in-Ends
 returns-in_ok-end_text-in-Ends c = λ token e.
-    let takes : TakesByte c.args.c step.Ends c.in-Text.token c.take.new.self = subst (λ (z : Step). TakesByte c.args.c z c.in-Text.token c.take.new.self) c.in-Ends.is c.in_ok-take.ensures in
-    steps_put c.args.c c.args.self.now (record { mode = mode.Text c.take.new.self; stack = c.args.self.now.stack }) _ (mode.Text c.in-Text.token) (tree.Text (text_of c.take.new.self)) c.in-Text.is refl (text_ended c.in-Text.token c.take.new.self (length (stack_of c.args.self.now)) c.args.c takes) (c.in_ok-end_text-in-Ends.ensures c.take.new.self refl)
+    let old = c.args.self.now in
+    let new = state_of c.end_text.new.self in
+    let stack = stack_of old in
+    let bytes = c.args.bytes.now in
+    let n = c.in-Ends.read in
+    let takes : TakesFront bytes (front.Ends n) c.in-Text.token c.take_front.new.self = subst (λ (z : Front). TakesFront bytes z c.in-Text.token c.take_front.new.self) c.in-Ends.is c.in_ok-read.ensures in
+    tried true (advance.Goes (n + 1)) n bytes (state_of old) (at (reading.Text takes.before) stack) new refl takes.within
+    (leaves (take n bytes) old (mode.Text c.in-Text.token) stack _ c.in-Text.is refl (text_run (take n bytes) c.in-Text.token takes.before stack takes.run))
+    (steps_put (get_or bytes n 0) (reading.Text takes.before) stack new (tree.Text (text_of c.take_front.new.self))
+    (text_ended takes.before c.take_front.new.self (length stack) (get_or bytes n 0) takes.byte) (c.in_ok-end_text-in-Ends.ensures c.take_front.new.self refl))
 
 pub returns-in-Stuck : goal.returns-in-Stuck
 returns-in-Stuck c = λ token e.
-    let takes : TakesByte c.args.c step.Stuck c.in-Text.token c.take.new.self = subst (λ (z : Step). TakesByte c.args.c z c.in-Text.token c.take.new.self) c.in-Stuck.is c.in_ok-take.ensures in
-    stuck_by c.args.c c.args.self.now (mode.Text c.in-Text.token) c.in-Text.is (text_stops _ c.take.new.self (length (stack_of c.args.self.now)) c.args.c takes)
+    let old = c.args.self.now in
+    let stack = stack_of old in
+    let bytes = c.args.bytes.now in
+    let n = c.in-Stuck.read in
+    let takes : TakesFront bytes (front.Stuck n) c.in-Text.token c.take_front.new.self = subst (λ (z : Front). TakesFront bytes z c.in-Text.token c.take_front.new.self) c.in-Stuck.is c.in_ok-read.ensures in
+    tried false (advance.Stuck n) n bytes (state_of old) (at (reading.Text takes.before) stack) (state_of old) refl takes.within
+    (leaves (take n bytes) old (mode.Text c.in-Text.token) stack _ c.in-Text.is refl (text_run (take n bytes) c.in-Text.token takes.before stack takes.run))
+    (stuck_by (get_or bytes n 0) (reading.Text takes.before) stack (text_stops takes.before c.take_front.new.self (length stack) (get_or bytes n 0) takes.byte))
