@@ -1,4 +1,6 @@
 pub mod Faults
+mod FirstCome
 mod Items
 mod Lengths
+mod MarkedNames
 mod SeenNames

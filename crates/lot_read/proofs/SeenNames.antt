@@ -1,14 +1,11 @@
 -- The table of names, seen as the bytes of its keys.
-use Rattle.std.proofs.Common.{◌≡◌, ℕ, ◌+◌, suc, Bool, true, false, not, cond, nat_lt, List, [], ◌∷◌, length, map, filter, Some, None, position, refl, ap, sym, ◌∙◌}
+use Rattle.std.proofs.Common.{◌≡◌, ℕ, ◌+◌, suc, Bool, true, false, not, cond, nat_lt, List, [], ◌∷◌, length, map, filter, Some, None, position, refl, ap, ◌∙◌}
 use Rattle.std.specs.declared.vec.Vec.{Vec}
 use Rattle.std.specs.declared.alloc.Global.{Global}
 use Rattle.std.specs.List.{position_or_len}
 use Rattle.std.specs.Map.{keys_of}
 use Rattle.std.specs.Str.{bytes_eq}
 use Rattle.indexmap.specs.IndexMap.{insert_entry}
-use Rattle.lot_json.specs.declared.json.Json.{Json}
-use Rattle.lot_read.specs.Names.{is_there, walked}
-use Rattle.lot_read.specs.Reading.{Pairs}
 use Rattle.lot_read.specs.Seen.{seen, seen_names}
 
 abbrev Entries : Type 0
@@ -52,9 +49,3 @@ filter_by false e es kept h = h
 pub names_filter : (es : Entries) → seen_names (filter (λ x. x.1) es) ≡ map (λ x. x.0) (filter (λ x. x.1) (seen es))
 names_filter [] = refl
 names_filter (e ∷ es) = filter_by e.1 e (filter (λ x. x.1) es) (filter (λ x. x.1) (seen es)) (names_filter es)
-
--- One pair more is walked.
-pub walked_more : (old new : List (List ℕ × Bool)) (ps rest : Pairs) (p : List ℕ × Json) (whole : List (List ℕ × Bool))
-    → ps ≡ p ∷ rest → new ≡ insert_entry bytes_eq old p.0 (is_there p.1) → walked old ps ≡ whole → walked new rest ≡ whole
-walked_more old new ps rest p whole is put so_far =
-    ap (λ (z : List (List ℕ × Bool)). walked z rest) put ∙ ap (λ (z : Pairs). walked old z) (sym is) ∙ so_far

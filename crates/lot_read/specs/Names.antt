@@ -1,25 +1,29 @@
--- The names of slots. That a name stands where it first came, that the last of its values counts, and that one whose
--- last value is `null` is absent, is this project's own.
-use Rattle.std.specs.Prelude.{ℕ, Bool, true, false, List, [], ◌∷◌, Option, position, map, filter}
+-- The names of slots. That a name stands where it first came, and that one whose last value is `null` is absent, is this
+-- project's own.
+use Rattle.std.specs.Prelude.{ℕ, Bool, not, List, [], ◌∷◌, Option, is_some, position, map, filter}
+use Rattle.std.specs.List.{list_any}
 use Rattle.std.specs.Str.{bytes_eq}
-use Rattle.indexmap.specs.IndexMap.{insert_entry}
-use Rattle.lot_json.specs.declared.json.Json.{Json, out-Json}
-use Rattle.lot_json.specs.declared.json.Json.TheOpen as tree
+use Rattle.lot_json.specs.Lookup.{member}
 use Rattle.lot_read.specs.Reading.{Pairs}
 
--- A value that is `null` is absent.
-unfoldable pub is_there : Json → Bool
-is_there j = elim (out-Json j) [ tree.Null ↦ false | _ ↦ true ]
+-- Each name once, where it first came.
+abbrev pub first_come : List (List ℕ) → List (List ℕ)
+first_come [] = []
+first_come (name ∷ names) = name ∷ filter (λ later. not (bytes_eq name later)) (first_come names)
 
--- The names with whether their last value is there. A name that comes again keeps its place and takes the later value,
--- and a new one goes last.
-abbrev pub walked : List (List ℕ × Bool) → Pairs → List (List ℕ × Bool)
-walked seen [] = seen
-walked seen (p ∷ ps) = walked (insert_entry bytes_eq seen p.0 (is_there p.1)) ps
+abbrev pub all_names : Pairs → List (List ℕ)
+all_names ps = first_come (map (λ p. p.0) ps)
 
--- The names of the slots that are there, each where it first came.
+-- A member of this name is there.
+abbrev pub is_there : Pairs → List ℕ → Bool
+is_there ps name = is_some (member name ps)
+
+-- The names of the members that are there, each where it first came.
 unfoldable pub names_of : Pairs → List (List ℕ)
-names_of ps = map (λ e. e.0) (filter (λ e. e.1) (walked [] ps))
+names_of ps = filter (is_there ps) (all_names ps)
+
+abbrev pub among : List ℕ → List (List ℕ) → Bool
+among name names = list_any (bytes_eq name) names
 
 -- The place of a name among the names.
 abbrev pub place_of : List ℕ → List (List ℕ) → Option ℕ

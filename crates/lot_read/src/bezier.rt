@@ -4,7 +4,7 @@ ghost use Rattle.lot_read.specs.Outcome.{Gives};
 ghost use Rattle.lot_read.specs.Values.{bezier, bezier_rows, as_many as as_many_in};
 
 use crate::kind::Flag;
-use crate::list::{ListOf, ValueOrFirst};
+use crate::list::{LONGEST, ListOf, ValueOrFirst};
 use crate::reader::{Object, Reader, Rows};
 use crate::row::{needed, optional, refuse_under};
 use crate::vector::VectorValue;
@@ -29,7 +29,7 @@ fn as_many(name: &str, at: &mut Pointer, vertices: usize, tangents: usize) -> Re
 struct BezierRows;
 
 const VECTORS: ListOf<VectorValue> = ListOf {
-    most: 65_536,
+    most: LONGEST,
     item: VectorValue,
 };
 

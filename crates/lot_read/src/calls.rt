@@ -92,7 +92,7 @@ pub fn read_bezier(
     read_property(alloc, at, v, names, SlotKind::Bezier, BezierValue)
 }
 
-/// Reads a property of gradients of so many stops, as [`read_scalar`] one of scalars.
+/// Reads a property of gradients of so many stops, of which there is at least one, as [`read_scalar`] one of scalars.
 pub fn read_gradient(
     alloc: Global,
     at: &mut Pointer,

@@ -4,7 +4,7 @@ ghost use Rattle.lot_types.specs.Ramp.{HasStops};
 ghost use Rattle.lot_read.specs.Outcome.{Gives};
 ghost use Rattle.lot_read.specs.Values.{gradient, counted as counted_in};
 
-use crate::list::ListOf;
+use crate::list::{LONGEST, ListOf};
 use crate::number::AnyNumber;
 use crate::reader::Reader;
 use crate::row::refuse;
@@ -42,7 +42,7 @@ impl Reader for GradientValue {
     #[tactic(auto, using(crate::proofs::Faults::first_of_front, crate::proofs::Lengths::list_length), unfolding(crate::specs::Values::gradient))]
     fn read(&self, at: &mut Pointer, v: &Json, uses: &mut Seq<Use>) -> Result<Gradient, Refusal> {
         let numbers = ListOf {
-            most: 65_536,
+            most: LONGEST,
             item: AnyNumber,
         };
         let flat = numbers.read(at, v, uses)?;

@@ -8,7 +8,8 @@ use crate::row::refuse;
 use lot_json::{Json, Number, Pointer};
 use lot_types::{Duplicate, FaultCode, Fx, Refusal, Seq, Text, Use};
 
-/// A flag: true, false, or a number, which is true where it is not 0.
+/// A flag: true, false, or a number, which is true where it is not 0. Another value is [`FaultCode::Kind`], a number
+/// beyond the range of [`Fx`] is [`FaultCode::Range`].
 #[derive(Clone, Copy)]
 pub struct Flag;
 
@@ -96,7 +97,7 @@ impl Reader for Whole {
     }
 }
 
-/// A text.
+/// A text, else [`FaultCode::Kind`].
 #[derive(Clone, Copy)]
 pub struct TextValue;
 

@@ -8,6 +8,9 @@ use crate::row::{read_item, refuse};
 use lot_json::{Json, Pointer};
 use lot_types::{FaultCode, Refusal, Seq, Use};
 
+/// The most items of a list that is read whole and has no smaller limit of its own.
+pub(crate) const LONGEST: usize = 65_536;
+
 /// A list that is read whole, of at most so many items, else [`FaultCode::TooMany`].
 #[derive(Clone, Copy)]
 pub struct ListOf<R> {

@@ -6,7 +6,7 @@ use crate::row::refuse;
 use lot_json::{Json, Number, Pointer};
 use lot_types::{FaultCode, Fx, Refusal, Seq, Time, Use};
 
-/// Any number.
+/// Any number. Another value is [`FaultCode::Kind`], a number beyond the range of [`Fx`] is [`FaultCode::Range`].
 #[derive(Clone, Copy)]
 pub struct AnyNumber;
 
@@ -63,7 +63,7 @@ impl Reader for AboveZero {
     }
 }
 
-/// A moment, in frames.
+/// A moment: any number, in millionths of a frame.
 #[derive(Clone, Copy)]
 pub struct Moment;
 

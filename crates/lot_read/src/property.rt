@@ -107,8 +107,8 @@ fn moves(a: Option<bool>, k: &Json) -> bool
 
 /// A property of a kind of values: its own value, or the slot that it names among these.
 ///
-/// An expression, a split position and what moves are [`FaultCode::Unsupported`]; a name that no slot has, without a
-/// value of its own, is [`FaultCode::NoValue`].
+/// An expression and what moves are [`FaultCode::Unsupported`]; a name that no slot has, without a value of its own, is
+/// [`FaultCode::NoValue`].
 #[derive(Clone, Copy)]
 pub struct Property<'a, V> {
     pub kind: SlotKind,

@@ -1,9 +1,10 @@
 //! The names of the slots of a document.
-ghost use Rattle.std.specs.Prelude.{◌≡◌, ◌≤◌, [], length, IfOk};
+ghost use Rattle.std.specs.Prelude.{◌≡◌, ◌≤◌, ℕ, List, [], not, length, IfOk};
 ghost use Rattle.indexmap.specs.IndexMap.{index_map_len};
+ghost use Rattle.lot_json.specs.Lookup.{is_null};
 ghost use Rattle.lot_json.specs.declared.json.JsonMembers.{out-JsonMembers};
-ghost use Rattle.lot_read.specs.Names.{is_there as there_in, walked, names_of, place_of};
-ghost use Rattle.lot_read.specs.Seen.{seen, seen_names};
+ghost use Rattle.lot_read.specs.Names.{names_of, is_there as there_in, among, place_of};
+ghost use Rattle.lot_read.specs.Seen.{seen, marked_names};
 
 use indexmap::IndexMap;
 use lot_json::{Json, JsonMembers};
@@ -31,9 +32,8 @@ impl Model for SlotNames {
 }
 
 /// Whether a value is there: `null` is absent.
-#[tactic(auto, unfolding(crate::specs::Names::is_there))]
 fn is_there(v: &Json) -> bool
-    ensures { result ≡ there_in v.now }
+    ensures { result ≡ not (is_null v.now) }
 {
     match v {
         Json::Null => false,
@@ -43,7 +43,7 @@ fn is_there(v: &Json) -> bool
 
 /// The names of the pairs, with whether their last value is there.
 fn walk(alloc: Global, pairs: &[(Text, Json)]) -> Result<IndexMap<Vec<u8>, bool>, Memory>
-    ensures walked { IfOk result (λ m. seen m.entries ≡ walked [] pairs.now) }
+    ensures names { IfOk result (λ m. seen m.entries ≡ marked_names pairs.now) }
     ensures len { IfOk result (λ m. index_map_len m ≤ length pairs.now) }
 {
     let mut names = IndexMap::new(alloc);
@@ -64,11 +64,12 @@ impl SlotNames {
         }
     }
 
-    /// The names of an object's members. There are at most 65,536 members, repeated ones counted.
+    /// The names of an object's members that are there. It has at most 65,536 pairs, repeated names and `null` counted.
     #[tactic(auto, unfolding(crate::specs::Names::names_of))]
     pub fn of(alloc: Global, slots: &JsonMembers) -> Result<SlotNames, Memory>
         requires { length (out-JsonMembers slots.now).pairs ≤ 65536 }
-        ensures { IfOk result (λ names. names ≡ names_of (out-JsonMembers slots.now).pairs) }
+        ensures names { IfOk result (λ names. names ≡ names_of (out-JsonMembers slots.now).pairs) }
+        ensures there { IfOk result (λ names. (name : List ℕ) → among name names ≡ there_in (out-JsonMembers slots.now).pairs name) }
     {
         let mut names = walk(alloc, slots.pairs())?;
         names.retain(
