@@ -16,28 +16,6 @@ adds_none held h told = told ∙ ap (λ (z : List ℕ). Some z) (sym (append-nil
 adds_front : (held : Option (List ℕ)) (bytes : List ℕ) → AddsPrefix held held bytes
 adds_front held bytes = (0, omega arith, adds_none held)
 
-pub ends_read_fault : (told : Option (List ℕ)) (task : Task) (held : Option (List ℕ)) (faults faulted given gave failures failed : ℕ) → Rose faults faulted
-    → Ends told task held held faults faulted given gave failures failed ReadFault
-ends_read_fault told task held faults faulted given gave failures failed rose = record {
-  whole = λ w. absurd w;
-  short = λ s content t bytes status a. adds_front held bytes;
-  silent = λ s. adds_none held;
-  read_fault = λ e. rose;
-  write_fault = λ e. absurd cc;
-  too_long = λ e. absurd cc;
-}
-
-pub ends_without_memory : (told : Option (List ℕ)) (task : Task) (held : Option (List ℕ)) (faults faulted given gave failures failed : ℕ)
-    → Ends told task held held faults faulted given gave failures failed Memory
-ends_without_memory told task held faults faulted given gave failures failed = record {
-  whole = λ w. absurd w;
-  short = λ s content t bytes status a. adds_front held bytes;
-  silent = λ s. adds_none held;
-  read_fault = λ e. absurd cc;
-  write_fault = λ e. absurd cc;
-  too_long = λ e. absurd cc;
-}
-
 pub ends_too_long : (told : Option (List ℕ)) (task : Task) (held : Option (List ℕ)) (faults faulted given gave failures failed : ℕ)
     → ((content : List ℕ) → Told told content → most < length content) → RoseAbove most given gave
     → Ends told task held held faults faulted given gave failures failed TooLong

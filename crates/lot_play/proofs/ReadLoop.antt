@@ -2,7 +2,7 @@
 use Rattle.std.proofs.Common.{◌≡◌, ℕ, ◌+◌, ◌<◌, ◌≤◌, ◌⊎◌, List, [], ◌++◌, length, take, drop, Option, sym, refl, ap, ◌∙◌, subst, append_assoc, arith, inl, inr, length-append}
 use Rattle.std.proofs.Math.Seq.{drop-append_seam}
 use Rattle.std.proofs.lemmas.List.{take-append-drop, append-nil, length-take-le, nil_from_length}
-use Rattle.lot_play.specs.Outside.{Told, SameTold, Puts, RoseBy, RoseAbove, last}
+use Rattle.lot_play.specs.Outside.{Told, SameTold, SameServed, Puts, RoseBy, RoseAbove, last}
 
 -- What was read is the front of a content.
 abbrev pub IsFront : List ℕ → List ℕ → Type 0
@@ -23,6 +23,10 @@ none_read most told name gave fails = record {
   later = omega arith;
   same = λ n. refl;
 }
+
+-- What is served over two steps.
+pub served_on : (old now next : List ℕ → Type 0) → SameServed old now → SameServed now next → SameServed old next
+served_on old now next a b = λ name. (λ h. (b name).0 ((a name).0 h), λ h. (a name).1 ((b name).1 h))
 
 front_grows : (made content buffer : List ℕ) (n room : ℕ) → IsFront made content → Puts content (length made) n room buffer → IsFront (made ++ take n buffer) content
 front_grows made content buffer n room (rest, is) puts =
@@ -75,14 +79,6 @@ ends_read most told now name made buffer n room gave gives fails failed r puts n
     let sizes = ap (λ (z : List ℕ). length z) front.1 ∙ length-append made front.0 in
     let nil : length front.0 ≡ 0 = omega arith in
     sym (front.1 ∙ ap (λ (z : List ℕ). made ++ z) (nil_from_length front.0 nil) ∙ append-nil made)
-
--- What was read is longer than the most, so the content is too, and so much was given.
-pub long_content : (most : ℕ) (told next : List ℕ → Option (List ℕ)) (name made : List ℕ) (gave gives fails failed : ℕ) → MoreRead told next name made gave gives fails failed → most < length made
-    → (content : List ℕ) → Told (told name) content → most < length content
-long_content most told next name made gave gives fails failed m long content h =
-    let front = m.front content h in
-    let sizes = ap (λ (z : List ℕ). length z) front.1 ∙ length-append made front.0 in
-    omega arith
 
 pub long_given : (most gave gives : ℕ) (made : List ℕ) → (gave + length made ≤ gives) ⊎ (last ≤ gives) → most < length made → RoseAbove most gave gives
 long_given most gave gives made (inl h) long = inl (omega arith)

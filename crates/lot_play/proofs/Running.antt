@@ -1,10 +1,10 @@
 -- How a run on words ends, from how it ends on the content that they name.
-use Rattle.std.proofs.Common.{◌≡◌, ◌⊎◌, ℕ, List, [], Option, sym, refl, subst, inl, inr}
+use Rattle.std.proofs.Common.{◌≡◌, ℕ, List, [], Option, sym, subst}
 use Rattle.lot_play.specs.declared.command.Task.{Task}
 use Rattle.lot_play.specs.declared.status.Status.{Status}
-use Rattle.lot_play.specs.declared.status.Status.TheVariants.{Done, Refused, Usage, ReadFault, WriteFault, Memory, TooLong}
+use Rattle.lot_play.specs.declared.status.Status.TheVariants.{Usage}
 use Rattle.lot_play.specs.Command.{IsTheRequest}
-use Rattle.lot_play.specs.Outside.{Told, Rose, Adds, AddsPrefix}
+use Rattle.lot_play.specs.Outside.{Told, Adds, AddsPrefix}
 use Rattle.lot_play.specs.Output.{IsMisused, IsTold, IsWhole, IsShort, Answers, Output, on_misuse, on_request}
 use Rattle.lot_play.specs.Judged.{Ends}
 
@@ -38,19 +38,6 @@ module _ (told : List ℕ → Option (List ℕ)) (words : List (List ℕ)) (name
 
     pub run_front : IsShort r → (bytes : List ℕ) (status : Status) → Output told words bytes status → AddsPrefix held now bytes
     run_front short bytes status o = let n = named bytes status o in ends.short short n.content n.is_told bytes status n.answers
-
-whole_or : (r : Status) (P Q : Type 0) → (r ≡ ReadFault → P) → (r ≡ WriteFault → Q) → (P → ⊥) → (Q → ⊥) → IsWhole r ⊎ (r ≡ Memory)
-whole_or Done P Q p q np nq = inl tt
-whole_or Refused P Q p q np nq = inl tt
-whole_or Usage P Q p q np nq = inl tt
-whole_or ReadFault P Q p q np nq = absurd (np (p refl))
-whole_or WriteFault P Q p q np nq = absurd (nq (q refl))
-whole_or Memory P Q p q np nq = inr refl
-whole_or TooLong P Q p q np nq = inl tt
-
-pub run_complete : (told : Option (List ℕ)) (task : Task) (held now : Option (List ℕ)) (faults faulted given gave failures failed : ℕ) (r : Status) → Ends told task held now faults faulted given gave failures failed r
-    → (Rose faults faulted → ⊥) → (Rose failures failed → ⊥) → IsWhole r ⊎ (r ≡ Memory)
-run_complete told task held now faults faulted given gave failures failed r ends = whole_or r (Rose faults faulted) (Rose failures failed) ends.read_fault ends.write_fault
 
 -- Words that are no command.
 pub misuse_defined : (told : List ℕ → Option (List ℕ)) (words : List (List ℕ)) → IsMisused words → (bytes : List ℕ) (status : Status) → Output told words bytes status → (bytes ≡ []) × (status ≡ Usage)

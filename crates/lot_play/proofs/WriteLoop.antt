@@ -10,13 +10,6 @@ pub record IsWritten (before now : Option (List ℕ)) (bytes : List ℕ) (at fai
   pub added : Adds before now (take at bytes)
   pub later : fails ≤ failed
 
-pub none_written : (held : Option (List ℕ)) (bytes : List ℕ) (fails : ℕ) → IsWritten held held bytes 0 fails fails
-none_written held bytes fails = record {
-  within = omega arith;
-  added = λ h told. told ∙ ap (λ (z : List ℕ). Some z) (sym (append-nil h));
-  later = omega arith;
-}
-
 pub more_written : (before now next : Option (List ℕ)) (bytes rest : List ℕ) (at n fails failed failing : ℕ) → IsWritten before now bytes at fails failed
     → rest ≡ drop at bytes → n ≤ length bytes - at → Adds now next (take n rest) → failed ≤ failing → IsWritten before next bytes (at + n) fails failing
 more_written before now next bytes rest at n fails failed failing w is fits adds later = record {

@@ -1,6 +1,6 @@
 -- What the calls of folders and sinks say of the outside: counts of faults, what is told, what was read and written.
 -- These rules are this project's own.
-use Rattle.std.specs.Prelude.{◌≡◌, ℕ, ◌+◌, ◌-◌, ◌<◌, ◌≤◌, ◌^◌, ◌⊎◌, List, ◌++◌, length, take, drop, Option, Some}
+use Rattle.std.specs.Prelude.{◌≡◌, ℕ, ◌+◌, ◌-◌, ◌<◌, ◌≤◌, ◌^◌, ◌⊎◌, ◌↔◌, List, ◌++◌, length, take, drop, Option, Some}
 
 -- The last value of a count. A count that has come to it stands still.
 abbrev pub last : ℕ
@@ -25,6 +25,10 @@ Told told content = told ≡ Some content
 -- The same is told of each name.
 abbrev pub SameTold : (List ℕ → Option (List ℕ)) → (List ℕ → Option (List ℕ)) → Type 0
 SameTold old new = (name : List ℕ) → new name ≡ old name
+
+-- The same names are served.
+abbrev pub SameServed : (List ℕ → Type 0) → (List ℕ → Type 0) → Type 0
+SameServed old new = (name : List ℕ) → old name ↔ new name
 
 -- The front of the buffer has n bytes of the content from a place on. There are none only at the end of the content,
 -- or where there is no room.

@@ -39,11 +39,11 @@ empty_tag name attributes = tag_start name ++ attributes ++ empty_tag_end
 unfoldable pub close_tag : List ℕ → List ℕ
 close_tag name = codes "</" ++ name ++ codes ">\n"
 
--- A length in pixels, with three digits behind the point.
+-- A length in pixels, with at most three digits behind the point.
 unfoldable pub length_text : ℤ → List ℕ
 length_text v = printed v 3
 
--- A coefficient, with six digits behind the point.
+-- An entry of a matrix, with at most six digits behind the point.
 unfoldable pub entry_text : ℤ → List ℕ
 entry_text v = printed v 6
 
@@ -57,6 +57,7 @@ byte_text n = hex_text (n / 16) ∷ hex_text (n % 16) ∷ []
 unfoldable pub colour_text : Rgb → List ℕ
 colour_text c = codes "#" ++ byte_text c.r ++ byte_text c.g ++ byte_text c.b
 
+-- The map that leaves every point where it is.
 abbrev pub is_identity : Matrix → Bool
 is_identity m = int_eq m.a (pos (10 ^ 6)) && int_eq m.b (pos 0) && int_eq m.c (pos 0) && int_eq m.d (pos (10 ^ 6)) && int_eq m.e (pos 0) && int_eq m.f (pos 0)
 

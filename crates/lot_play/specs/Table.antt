@@ -1,7 +1,7 @@
 -- What a document says: the tables of the members of the whole animation, of its layers and of their transforms. The
 -- members are those of the Lottie Specification 1.0; which of them are read, and in which order their faults are told,
 -- is this project's own.
-use Rattle.std.specs.Prelude.{◌==◌, ℕ, ℤ, pos, ◌*◌, ◌+◌, ◌-◌, ◌%◌, ◌^◌, ◌&&◌, false, not, nat_le, int_lt, unsigned_abs, List, [], ◌∷◌, Option, Some, None, codes, if◌then◌else◌}
+use Rattle.std.specs.Prelude.{◌==◌, ℕ, ℤ, pos, ◌*◌, ◌+◌, ◌-◌, ◌%◌, ◌^◌, ◌&&◌, false, nat_le, int_lt, unsigned_abs, List, [], ◌∷◌, Option, Some, None, codes, if◌then◌else◌}
 use Rattle.std.specs.Ordering.{int_eq}
 use Rattle.lot_types.specs.declared.fault.FaultCode.TheVariants.{Kind, Value, Order, Unsupported}
 use Rattle.lot_types.specs.declared.point.Point.{Point}
@@ -36,8 +36,8 @@ hex_byte high low = hex_digit high >>= λ h. hex_digit low >>= λ l. Some (16 * 
 -- A colour: '#' and six hexadecimal digits.
 unfoldable pub colour_of : List ℕ → Option Rgb
 colour_of (hash ∷ a ∷ b ∷ c ∷ d ∷ e ∷ f ∷ []) =
-    if not (nat_le 35 hash && nat_le hash 35) then None
-    else hex_byte a b >>= λ r. hex_byte c d >>= λ g. hex_byte e f >>= λ b. Some (record { r = r; g = g; b = b })
+    if hash == 35 then (hex_byte a b >>= λ r. hex_byte c d >>= λ g. hex_byte e f >>= λ b. Some (record { r = r; g = g; b = b }))
+    else None
 colour_of _ = None
 
 abbrev pub or_no_value : {A : Type 0} → List Step → Option A → Reading A

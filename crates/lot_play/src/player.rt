@@ -4,7 +4,7 @@ ghost use Rattle.lot_play.specs.declared.command.Task.{Task};
 ghost use Rattle.lot_play.specs.declared.status.Status.{Status};
 ghost use Rattle.lot_play.specs.declared.status.Status.TheVariants as status;
 ghost use Rattle.lot_play.specs.Judged.{Writes, Ends};
-ghost use Rattle.lot_play.specs.Outside.{Rose, RoseAbove, SameTold, Adds, AddsPrefix};
+ghost use Rattle.lot_play.specs.Outside.{Rose, RoseAbove, SameTold, SameServed, Adds, AddsPrefix};
 ghost use Rattle.lot_play.specs.Output.{Asks, IsMisused, IsTold, IsWhole, IsShort, IsSilent, Output, most};
 
 use crate::answer::{Answer, answer_content};
@@ -41,6 +41,7 @@ fn run_task<F: Folder, K: Sink>(
     ensures ends { Ends (F.told folder.old document.now) task (K.held out.old) (K.held out.new) (F.faults folder.old) (F.faults folder.new)
         (F.given folder.old) (F.given folder.new) (K.faults out.old) (K.faults out.new) result }
     ensures told { SameTold (F.told folder.old) (F.told folder.new) }
+    ensures served { SameServed (F.serves folder.old) (F.serves folder.new) }
 {
     let content = match read_all(alloc, folder, document) {
         Ok(content) => content,
@@ -88,6 +89,7 @@ pub fn run<F: Folder, K: Sink, L: Ledger>(
         → IsWhole result ⊎ (result ≡ status.Memory) }
 
     ensures told { SameTold (F.told folder.old) (F.told folder.new) }
+    ensures served { SameServed (F.serves folder.old) (F.serves folder.new) }
     ensures uncounted { steps.new ≡ steps.old }
 {
     match request_of(words) {

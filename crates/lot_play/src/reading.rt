@@ -1,5 +1,5 @@
 ghost use Rattle.std.specs.Prelude.{◌≡◌, ◌<◌, ◌≤◌, ℕ, List, length, IfOk, Err};
-ghost use Rattle.lot_play.specs.Outside.{Rose, RoseAbove, Told, SameTold};
+ghost use Rattle.lot_play.specs.Outside.{Rose, RoseAbove, Told, SameTold, SameServed};
 ghost use Rattle.lot_play.specs.declared.reading.ReadRefusal.TheVariants as refusal;
 ghost use Rattle.lot_play.specs.declared.reading.TheConstants.{MOST};
 
@@ -41,6 +41,7 @@ pub fn read_all<F: Folder>(alloc: Global, folder: &mut F, name: &str) -> Result<
     ensures failed { result ≡ Err refusal.Failed → Rose (F.faults folder.old) (F.faults folder.new) }
     ensures later { F.faults folder.old ≤ F.faults folder.new }
     ensures told { SameTold (F.told folder.old) (F.told folder.new) }
+    ensures served { SameServed (F.serves folder.old) (F.serves folder.new) }
 {
     let mut content = Bytes::new(alloc);
     let mut buf = [0; 65536];

@@ -1,4 +1,5 @@
 //! The first fault of a document, as `check` and `frame` tell it.
+use crate::documents::{EMPTY_SVG, SOLID};
 use crate::one_file::OneFile;
 use crate::short_sink::{ShortSink, run_on};
 use lot_play::Status;
@@ -7,14 +8,8 @@ use std::alloc::Global;
 use std::process::Abort;
 use std::test::Fail;
 
-const SOLID: &str =
-    "{\"w\":10,\"h\":10,\"fr\":30,\"ip\":0,\"op\":60,\"layers\":[{\"ty\":1,\"ip\":0,\"op\":60,\"ks\":{},\"sw\":10,\"sh\":10,\"sc\":\"#ff0000\"}]}";
-
 const HIDDEN: &str =
     "{\"w\":10,\"h\":10,\"fr\":30,\"ip\":0,\"op\":60,\"layers\":[{\"ty\":1,\"hd\":1,\"ip\":0,\"op\":60,\"ks\":{},\"sw\":10,\"sh\":10,\"sc\":\"#ff0000\"}]}";
-
-const NO_LAYERS: &str =
-    "<svg xmlns=\"http://www.w3.org/2000/svg\" version=\"1.1\" width=\"10\" height=\"10\" viewBox=\"0 0 10 10\">\n</svg>\n";
 
 const TEXT_WIDTH: &str = "{\"layers\":3,\"h\":10,\"fr\":30,\"ip\":0,\"op\":60,\"w\":\"ten\"}";
 
@@ -79,7 +74,7 @@ fn frame_judges_as_check_does(rt: HostRuntime) -> Result<(), Fail> {
         &["frame", "-", "0"],
         HIDDEN,
         Status::Done,
-        NO_LAYERS,
+        EMPTY_SVG,
     )?;
     expect(
         &rt,

@@ -1,4 +1,5 @@
 //! The first frames: an empty animation, one solid layer, and one that stands elsewhere.
+use crate::documents::{EMPTY, EMPTY_SVG, SOLID, SOLID_SVG};
 use crate::one_file::OneFile;
 use crate::short_sink::{ShortSink, run_on};
 use lot_play::Status;
@@ -6,17 +7,6 @@ use lot_types::Memory;
 use std::alloc::Global;
 use std::process::Abort;
 use std::test::Fail;
-
-const EMPTY: &str = "{\"w\":10,\"h\":10,\"fr\":30,\"ip\":0,\"op\":60,\"layers\":[]}";
-
-const EMPTY_SVG: &str =
-    "<svg xmlns=\"http://www.w3.org/2000/svg\" version=\"1.1\" width=\"10\" height=\"10\" viewBox=\"0 0 10 10\">\n</svg>\n";
-
-const SOLID: &str =
-    "{\"w\":10,\"h\":10,\"fr\":30,\"ip\":0,\"op\":60,\"layers\":[{\"ty\":1,\"ip\":0,\"op\":60,\"ks\":{},\"sw\":10,\"sh\":10,\"sc\":\"#ff0000\"}]}";
-
-const SOLID_SVG: &str =
-    "<svg xmlns=\"http://www.w3.org/2000/svg\" version=\"1.1\" width=\"10\" height=\"10\" viewBox=\"0 0 10 10\">\n<g>\n<path fill=\"#ff0000\" d=\"M0 0L10 0L10 10L0 10Z\"/>\n</g>\n</svg>\n";
 
 const MOVED: &str =
     "{\"w\":10,\"h\":10,\"fr\":30,\"ip\":0,\"op\":60,\"layers\":[{\"ty\":1,\"ip\":0,\"op\":60,\"ks\":{\"p\":{\"k\":[3,4.5]}},\"sw\":10,\"sh\":10,\"sc\":\"#ff0000\"}]}";

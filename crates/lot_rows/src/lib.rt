@@ -2,9 +2,13 @@
 #![tactic(auto)]
 
 #[cfg(test)]
+mod documents;
+#[cfg(test)]
 mod first_fault;
 #[cfg(test)]
 mod first_frame;
+#[cfg(test)]
+mod in_memory;
 #[cfg(test)]
 mod number_tokens;
 #[cfg(test)]

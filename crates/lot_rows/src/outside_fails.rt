@@ -1,16 +1,11 @@
 //! A read or a write that fails, at each call in turn, and documents at the limit of length.
+use crate::documents::{SOLID, SOLID_SVG};
 use crate::one_file::OneFile;
 use crate::short_sink::{ShortSink, run_on};
 use lot_play::Status;
 use lot_types::Memory;
 use std::alloc::Global;
 use std::test::Fail;
-
-const SOLID: &str =
-    "{\"w\":10,\"h\":10,\"fr\":30,\"ip\":0,\"op\":60,\"layers\":[{\"ty\":1,\"ip\":0,\"op\":60,\"ks\":{},\"sw\":10,\"sh\":10,\"sc\":\"#ff0000\"}]}";
-
-const SOLID_SVG: &str =
-    "<svg xmlns=\"http://www.w3.org/2000/svg\" version=\"1.1\" width=\"10\" height=\"10\" viewBox=\"0 0 10 10\">\n<g>\n<path fill=\"#ff0000\" d=\"M0 0L10 0L10 10L0 10Z\"/>\n</g>\n</svg>\n";
 
 /// The document has 112 bytes: twelve reads of at most ten bytes, and one that finds its end.
 #[test]

@@ -4,7 +4,10 @@
 //! with the number of its status.
 #![tactic(auto)]
 
-ghost use Rattle.std.specs.Prelude.{◌≡◌, ◌<◌};
+ghost use Rattle.std.specs.Prelude.{◌≡◌, ◌<◌, ◌⊎◌, [], ◌∷◌, ◌++◌, IfErr, OnOk, OnErr};
+ghost use Rattle.std.specs.Process.{exit_status};
+ghost use Rattle.lot_play.specs.Output.{status_number};
+ghost use Rattle.lot_play.specs.declared.status.Status.TheVariants as status;
 
 use lot_play::outside::{RealFolder, RealSink};
 use lot_play::{Status, run};
@@ -21,8 +24,10 @@ use std::sync::ledger::{Blank, Ledger};
 /// it.
 const NO_WORDS: u8 = 8;
 
-/// The words behind the program's name.
-fn words_of(rt: &(impl Env + AllocGlobal)) -> Result<Seq<Text>, u8> {
+/// The words behind the program's name, or the number with which the program ends without them.
+fn words_of(rt: &(impl Env + AllocGlobal)) -> Result<Seq<Text>, u8>
+    ensures { IfErr result (λ number. (number ≡ status_number status.Memory) ⊎ (number ≡ NO_WORDS)) }
+{
     let alloc = rt.alloc();
     let mut words = Seq::new(alloc);
     let args = match env::args(rt) {
@@ -38,7 +43,11 @@ fn words_of(rt: &(impl Env + AllocGlobal)) -> Result<Seq<Text>, u8> {
     Ok(words)
 }
 
-fn push_word(words: &mut Seq<Text>, alloc: Global, word: &str) -> Result<(), Memory> {
+/// Puts a word behind the others.
+fn push_word(words: &mut Seq<Text>, alloc: Global, word: &str) -> Result<(), Memory>
+    ensures ok { OnOk result (words.new ≡ words.old ++ word.now ∷ []) }
+    ensures err { OnErr result (words.new ≡ words.old) }
+{
     words.push(Text::of(alloc, word)?)
 }
 
@@ -54,11 +63,17 @@ fn run_real<L: Ledger>(blank: Blank, rt: &HostRuntime, words: &Seq<Text>) -> Sta
     run(rt.alloc(), words, &mut folder, &mut sink, &mut steps)
 }
 
+/// The end of the program with the number of a status.
+fn ended(status: Status) -> ExitCode
+    ensures { exit_status result ≡ status_number status }
+{
+    ExitCode::from(status.number())
+}
+
 fn main(rt: HostRuntime) -> ExitCode {
     let words = match words_of(&rt) {
         Ok(words) => words,
         Err(number) => return ExitCode::from(number),
     };
-    let status = run_real::<Brand>(Blank::new(1), &rt, &words);
-    ExitCode::from(status.number())
+    ended(run_real::<Brand>(Blank::new(1), &rt, &words))
 }

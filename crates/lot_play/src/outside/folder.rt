@@ -1,5 +1,5 @@
 ghost use Rattle.std.specs.Prelude.{◌≡◌, ℕ, ◌≤◌, List, Option, length, IfOk, IsErr, OnErr};
-ghost use Rattle.lot_play.specs.Outside.{Rose, RoseBy, Told, SameTold, Puts};
+ghost use Rattle.lot_play.specs.Outside.{Rose, RoseBy, Told, SameTold, SameServed, Puts};
 
 use lot_types::Failed;
 
@@ -32,5 +32,5 @@ pub trait Folder {
         ensures later { faults self.old ≤ faults self.new }
         ensures cause { IsErr result → Rose (faults self.old) (faults self.new) }
         ensures same { SameTold (told self.old) (told self.new) }
-        ensures serves { (n : List ℕ) → serves self.old n → serves self.new n };
+        ensures serves { SameServed (serves self.old) (serves self.new) };
 }

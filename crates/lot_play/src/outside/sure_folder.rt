@@ -28,7 +28,8 @@ impl Model for SureFolder {
 impl SureFolder {
     /// A folder that holds no names.
     pub fn new(alloc: Global) -> SureFolder
-        ensures { result.entries ≡ [] }
+        ensures entries { result.entries ≡ [] }
+        ensures given { result.given ≡ 0 }
     {
         SureFolder {
             alloc,
@@ -41,6 +42,7 @@ impl SureFolder {
     pub fn hold(&mut self, name: &str, content: &[u8]) -> Result<(), Memory>
         ensures ok { OnOk result (self.new.entries ≡ self.old.entries ++ (name.now, content.now) ∷ []) }
         ensures err { OnErr result (self.new.entries ≡ self.old.entries) }
+        ensures given { self.new.given ≡ self.old.given }
     {
         let mut bytes = Bytes::new(self.alloc);
         bytes.append(content)?;
