@@ -1,41 +1,41 @@
--- The first byte of a character that stands for itself, and the bytes behind it.
+-- The first byte of an unescaped character, and the bytes after it.
 use Rattle.std.proofs.Common.{◌≡◌, ◌↔◌, ℕ, ◌-◌, ◌<◌, ◌≤◌, ◌≢◌, ◌⊎◌, inl, inr, ⊎_elim, List, ◌∷◌, ◌++◌, ap, sym, subst, ◌∙◌, refl, arith}
 use Rattle.std.specs.Char.{IsScalar, encode_utf8}
 use Rattle.std.proofs.lemmas.Bool.{cases_lt, cases_order, le-ltb, le-leb, lt-ltb}
 use Rattle.std.proofs.Math.Utf8.{low_scalar}
 use Rattle.lot_json.specs.Characters.{Characters}
-use Rattle.lot_json.specs.Then.{Then}
+use Rattle.lot_json.specs.Characters.{FollowedBy}
 use Rattle.lot_json.specs.ByteSequence.{Continues, with_bits}
 use Rattle.lot_json.proofs.Utf8.{heads, Shape, one, two, three, four, shape, first_byte, encode_one, encode_two, encode_three, encode_four}
-use Rattle.lot_json.proofs.Spellings.{Plain, plain_ahead, plain_back}
+use Rattle.lot_json.proofs.Spellings.{Plain, unescaped_ahead, unescaped_back}
 
 pub high_scalar : (c : ℕ) → 57344 ≤ c → c < 1114112 → IsScalar c
 high_scalar c l h = rw (le-ltb c 55296 (omega arith), le-leb 57344 c l, lt-ltb c 1114112 h)
 
--- the same character and the same bytes behind it
-pub then_at : (c d : ℕ) (r t x : List ℕ) → c ≡ d → t ≡ r → Then d r x → Then c t x
+-- the same character and the same bytes after it
+pub then_at : (c d : ℕ) (r t x : List ℕ) → c ≡ d → t ≡ r → FollowedBy d r x → FollowedBy c t x
 then_at c d r t x e f h = (h.0, subst (λ (z : List ℕ). Characters z h.0) (sym f) h.1, h.2 ∙ ap (λ (z : ℕ). encode_utf8 z ++ h.0) (sym e))
 
 pub control : (c : ℕ) (t x : List ℕ) → c < 32 → Characters (c ∷ t) x → ⊥
-control c t x l h = by (plain_ahead c t x (λ e. omega (arith, e)) (λ e. omega (arith, e)) h)
+control c t x l h = by (unescaped_ahead c t x (λ e. omega (arith, e)) (λ e. omega (arith, e)) h)
   where
     by : Plain (c ∷ t) x → ⊥
     by p = ⊎_elim (λ k. omega (arith, k.1, p.is.1)) (λ k. omega (arith, k.1)) (first_byte c p.code t p.rest (shape p.code p.is.0) p.spelled)
 
 pub not_first : (c : ℕ) (t x : List ℕ) → 128 ≤ c → (c < 194) ⊎ (244 < c) → Characters (c ∷ t) x → ⊥
-not_first c t x l o h = by (plain_ahead c t x (λ e. omega (arith, e)) (λ e. omega (arith, e)) h) o
+not_first c t x l o h = by (unescaped_ahead c t x (λ e. omega (arith, e)) (λ e. omega (arith, e)) h) o
   where
     by : Plain (c ∷ t) x → (c < 194) ⊎ (244 < c) → ⊥
     by p (inl u) = ⊎_elim (λ k. omega (arith, k.0, k.1)) (λ k. omega (arith, k.1)) (first_byte c p.code t p.rest (shape p.code p.is.0) p.spelled)
     by p (inr u) = ⊎_elim (λ k. omega (arith, k.0, k.1)) (λ k. omega (arith, k.2)) (first_byte c p.code t p.rest (shape p.code p.is.0) p.spelled)
 
-pub ascii : (c : ℕ) → 32 ≤ c → c < 128 → c ≢ 34 → c ≢ 92 → (t x : List ℕ) → Characters (c ∷ t) x ↔ Then c t x
+pub ascii : (c : ℕ) → 32 ≤ c → c < 128 → c ≢ 34 → c ≢ 92 → (t x : List ℕ) → Characters (c ∷ t) x ↔ FollowedBy c t x
 ascii c l u q s t x = (
-  λ h. by (plain_ahead c t x q s h),
-  λ h. plain_back (c ∷ t) x (record { code = c; rest = t; is = (low_scalar c (omega arith), l, q, s); spelled = sym (ap (λ (z : List ℕ). z ++ t) (encode_one c u)); follows = h }),
+  λ h. by (unescaped_ahead c t x q s h),
+  λ h. unescaped_back (c ∷ t) x (record { code = c; rest = t; is = (low_scalar c (omega arith), l, q, s); spelled = sym (ap (λ (z : List ℕ). z ++ t) (encode_one c u)); follows = h }),
 )
   where
-    by : Plain (c ∷ t) x → Then c t x
+    by : Plain (c ∷ t) x → FollowedBy c t x
     by p = ⊎_elim (λ k. then_at c p.code p.rest t x k.1 k.2 p.follows) (λ k. absurd (omega (arith, k.1))) (first_byte c p.code t p.rest (shape p.code p.is.0) p.spelled)
 
 pub shape_of : (b x : List ℕ) (p : Plain b x) → Shape p.code
@@ -44,7 +44,7 @@ shape_of b x p = shape p.code p.is.0
 -- a first byte from 128 on
 module _ (c : ℕ) (t x : List ℕ) where
   pub long : 128 ≤ c → Characters (c ∷ t) x → Plain (c ∷ t) x
-  long l h = plain_ahead c t x (λ e. omega (arith, e)) (λ e. omega (arith, e)) h
+  long l h = unescaped_ahead c t x (λ e. omega (arith, e)) (λ e. omega (arith, e)) h
 
   pub two_ahead : (v : ℕ) → v ≡ c - 192 → 194 ≤ c → c < 224 → (p : Plain (c ∷ t) x) → Shape p.code → Continues 0 v 128 191 t x
   two_ahead v w l u p (one k e) = let h = heads (p.spelled ∙ ap (λ (z : List ℕ). z ++ p.rest) e) in absurd (omega (arith, h.0))
@@ -55,7 +55,7 @@ module _ (c : ℕ) (t x : List ℕ) where
   two_ahead v w l u p (four a b d y k m f g i s e) = let h = heads (p.spelled ∙ ap (λ (z : List ℕ). z ++ p.rest) e) in absurd (omega (arith, h.0, f.0, f.1, g.0, g.1, i.0, i.1))
 
   pub two_back : (v : ℕ) → v ≡ c - 192 → 194 ≤ c → c < 224 → Continues 0 v 128 191 t x → Characters (c ∷ t) x
-  two_back v w l u h = plain_back (c ∷ t) x (record {
+  two_back v w l u h = unescaped_back (c ∷ t) x (record {
     code = with_bits v h.0;
     rest = h.1;
     is = (h.5, omega (arith, h.2), (λ e. omega (arith, e, h.2)), λ e. omega (arith, e, h.2));
@@ -88,7 +88,7 @@ module _ (c : ℕ) (t x : List ℕ) where
         let low : 128 ≤ h.0 = omega (arith, three_low, h.2) in
         let high : h.0 < 192 = omega (arith, three_high, h.3) in
         let least_code : 2048 ≤ with_bits (with_bits v h.0) k.0 = ⊎_elim (λ z. omega (arith, h.2, low)) (λ z. omega (arith, h.2, low)) (cases_lt 224 c) in
-        plain_back (c ∷ t) x (record {
+        unescaped_back (c ∷ t) x (record {
           code = with_bits (with_bits v h.0) k.0;
           rest = k.1;
           is = (k.5, omega (arith, least_code), (λ e. omega (arith, e, least_code)), λ e. omega (arith, e, least_code));
@@ -144,7 +144,7 @@ module _ (c : ℕ) (t x : List ℕ) where
         let high : h.0 < 192 = omega (arith, four_high, h.3) in
         let code : ℕ = with_bits (with_bits (with_bits v h.0) k.0) j.0 in
         let least_code : 65536 ≤ with_bits (with_bits (with_bits v h.0) k.0) j.0 = ⊎_elim (λ z. omega (arith, h.2, low)) (λ z. omega (arith, h.2, low)) (cases_lt 240 c) in
-        plain_back (c ∷ t) x (record {
+        unescaped_back (c ∷ t) x (record {
           code = code;
           rest = j.1;
           is = (j.5, omega (arith, least_code), (λ e. omega (arith, e, least_code)), λ e. omega (arith, e, least_code));

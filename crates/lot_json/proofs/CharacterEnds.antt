@@ -3,21 +3,21 @@ use Rattle.std.proofs.Common.{◌≡◌, ℕ, suc, ◌+◌, ◌*◌, ◌/◌, �
 use Rattle.std.specs.Char.{IsScalar, encode_utf8}
 use Rattle.std.proofs.Math.Utf8.{low_scalar}
 use Rattle.std.proofs.lemmas.Bool.{cases_lt}
-use Rattle.lot_json.specs.Characters.{Characters, close, more, short}
-use Rattle.lot_json.specs.Then.{Then}
-use Rattle.lot_json.specs.CodeUnit.{Digits, AfterHigh, AfterLow, AfterUnit, joined}
+use Rattle.lot_json.specs.Characters.{Characters, close, more, short, pair_code}
+use Rattle.lot_json.specs.Characters.{FollowedBy}
+use Rattle.lot_json.specs.CodeUnit.{Digits, AfterHigh, AfterLow, AfterUnit}
 use Rattle.lot_json.specs.ByteSequence.{AreScalar, Continues, with_bits}
 use Rattle.lot_json.proofs.CharacterBegins.{high_scalar}
 
 -- the closing quotation mark
-pub closes : (c : ℕ) → Then c (34 ∷ []) (encode_utf8 c ++ [])
+pub closes : (c : ℕ) → FollowedBy c (34 ∷ []) (encode_utf8 c ++ [])
 closes c = ([], close refl refl, refl)
 
 pub ends_backslash : (t x : List ℕ) × Characters (92 ∷ t) x
 ends_backslash = (34 ∷ 34 ∷ [], encode_utf8 34 ++ [], more (92 ∷ 34 ∷ []) (34 ∷ []) [] 34 (short 34 (inl (refl, refl)) refl) (close refl refl) refl refl)
 
--- behind a high surrogate the escape \uDC00
-low_follows : (high : ℕ) → AfterHigh high (92 ∷ 117 ∷ 68 ∷ 67 ∷ 48 ∷ 48 ∷ 34 ∷ []) (encode_utf8 (joined high 56320) ++ [])
+-- after a high surrogate the escape \uDC00
+low_follows : (high : ℕ) → AfterHigh high (92 ∷ 117 ∷ 68 ∷ 67 ∷ 48 ∷ 48 ∷ 34 ∷ []) (encode_utf8 (pair_code high 56320) ++ [])
 low_follows high = (
   56320,
   92 ∷ 117 ∷ 68 ∷ 67 ∷ 48 ∷ 48 ∷ [],
@@ -38,14 +38,14 @@ low_follows high = (
   ),
   (omega arith, omega arith),
   refl,
-  closes (joined high 56320),
+  closes (pair_code high 56320),
 )
 
 pub ends_high : (high : ℕ) → (t x : List ℕ) × AfterHigh high t x
-ends_high high = (92 ∷ 117 ∷ 68 ∷ 67 ∷ 48 ∷ 48 ∷ 34 ∷ [], encode_utf8 (joined high 56320) ++ [], low_follows high)
+ends_high high = (92 ∷ 117 ∷ 68 ∷ 67 ∷ 48 ∷ 48 ∷ 34 ∷ [], encode_utf8 (pair_code high 56320) ++ [], low_follows high)
 
 pub ends_high_backslash : (high : ℕ) → (t x : List ℕ) × AfterHigh high (92 ∷ t) x
-ends_high_backslash high = (117 ∷ 68 ∷ 67 ∷ 48 ∷ 48 ∷ 34 ∷ [], encode_utf8 (joined high 56320) ++ [], low_follows high)
+ends_high_backslash high = (117 ∷ 68 ∷ 67 ∷ 48 ∷ 48 ∷ 34 ∷ [], encode_utf8 (pair_code high 56320) ++ [], low_follows high)
 
 -- a whole unit that is no low surrogate
 pub ends_unit : (u : ℕ) → u < 65536 → (u < 56320) ⊎ (57344 ≤ u) → (t x : List ℕ) × AfterUnit u t x
@@ -83,8 +83,8 @@ module _ (high : ℕ) where
   pub low_ends_fourth : (v : ℕ) → v / 64 ≡ 55 → (t x : List ℕ) × Digits 1 v t (λ (u : ℕ) (r : List ℕ). AfterLow high u r x)
   low_ends_fourth v e = let u = v * 16 + 0 in (
     48 ∷ 34 ∷ [],
-    encode_utf8 (joined high (v * 16 + 0)) ++ [],
-    zero_digit 0 v (λ (u : ℕ) (r : List ℕ). AfterLow high u r (encode_utf8 (joined high (v * 16 + 0)) ++ [])) (34 ∷ []) ((omega arith, omega arith), closes (joined high (v * 16 + 0))),
+    encode_utf8 (pair_code high (v * 16 + 0)) ++ [],
+    zero_digit 0 v (λ (u : ℕ) (r : List ℕ). AfterLow high u r (encode_utf8 (pair_code high (v * 16 + 0)) ++ [])) (34 ∷ []) ((omega arith, omega arith), closes (pair_code high (v * 16 + 0))),
   )
 
   pub low_ends_third : (v : ℕ) → v / 4 ≡ 55 → (t x : List ℕ) × Digits 2 v t (λ (u : ℕ) (r : List ℕ). AfterLow high u r x)

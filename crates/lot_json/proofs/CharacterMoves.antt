@@ -1,51 +1,51 @@
--- What a byte does, as the functions of part.rt have it.
-use Rattle.std.proofs.Common.{◌≡◌, ◌↔◌, ℕ, suc, ◌+◌, ◌-◌, ◌*◌, ◌/◌, ◌<◌, ◌≤◌, ◌≢◌, inl, inr, ⊎_elim, List, ◌∷◌, ap, sym, subst, ◌∙◌, refl, arith}
+-- What a byte does, as the functions of character.rt have it.
+use Rattle.std.proofs.Common.{◌≡◌, ◌↔◌, ℕ, Option, Some, None, suc, ◌+◌, ◌-◌, ◌*◌, ◌/◌, ◌<◌, ◌≤◌, ◌≢◌, inl, inr, ⊎_elim, List, ◌∷◌, ap, sym, subst, ◌∙◌, refl, arith}
 use Rattle.std.specs.Char.{IsScalar}
 use Rattle.std.specs.Str.Lossy.{second_byte_min, second_byte_max}
 use Rattle.std.proofs.Math.Utf8.{scalar_cases}
 use Rattle.std.proofs.lemmas.Bool.{cases_lt, cases_order, ne_eqb}
-use Rattle.lot_json.specs.declared.code_unit.Place.{Place}
-use Rattle.lot_json.specs.declared.code_unit.Place.TheVariants.{First, Second, Third, Fourth}
-use Rattle.lot_json.specs.declared.byte_sequence.Left.{Left}
-use Rattle.lot_json.specs.declared.byte_sequence.Left.TheVariants.{One, Two, Three}
-use Rattle.lot_json.specs.declared.part.Move.{Move}
-use Rattle.lot_json.specs.declared.part.Move.TheVariants.{Goes, Puts, Ends, Stuck}
+use Rattle.lot_json.specs.declared.tokens.code_unit.DigitPlace.{DigitPlace}
+use Rattle.lot_json.specs.declared.tokens.code_unit.DigitPlace.TheVariants.{First, Second, Third, Fourth}
+use Rattle.lot_json.specs.declared.tokens.byte_sequence.BytesLeft.{BytesLeft}
+use Rattle.lot_json.specs.declared.tokens.byte_sequence.BytesLeft.TheVariants.{One, Two, Three}
+use Rattle.lot_json.specs.declared.tokens.character.Taken.{Taken}
+use Rattle.lot_json.specs.declared.tokens.character.Taken.TheVariants.{Part, Whole, Quote}
 use Rattle.lot_json.specs.Characters.{Characters, IsHexDigit}
-use Rattle.lot_json.specs.Then.{Then}
-use Rattle.lot_json.specs.CodeUnit.{Digits, AfterHigh, AfterUnit, digits_left, digits_behind, values_before}
-use Rattle.lot_json.specs.ByteSequence.{AreScalar, Continues, with_bits, bytes_behind, values_behind}
-use Rattle.lot_json.specs.Part.{LeadsTo}
+use Rattle.lot_json.specs.Characters.{FollowedBy}
+use Rattle.lot_json.specs.CodeUnit.{Digits, AfterHigh, AfterUnit, digits_left, digits_after, values_before}
+use Rattle.lot_json.specs.ByteSequence.{AreScalar, Continues, with_bits, bytes_after, values_after}
+use Rattle.lot_json.specs.Character.{LeadsTo}
 use Rattle.lot_json.proofs.Utf8.{heads}
 use Rattle.lot_json.proofs.CharacterBegins.{two_ahead, two_back, three_ahead, three_back, four_ahead, four_back, long}
 use Rattle.lot_json.proofs.CharacterBegins as begins
 use Rattle.lot_json.proofs.Units.{digit, no_digit}
 use Rattle.lot_json.proofs.CharacterEnds.{ends_one, ends_two, ends_three}
 
-pub same_leads : (R S : List ℕ → List ℕ → Type 0) (m : Move) → ((t x : List ℕ) → R t x ↔ S t x) → LeadsTo S m → LeadsTo R m
-same_leads R S (Goes p) e h = ((λ t x. (λ r. (h.0 t x).0 ((e t x).0 r), λ r. (e t x).1 ((h.0 t x).1 r))), h.1)
-same_leads R S (Puts c) e h = λ t x. (λ r. (h t x).0 ((e t x).0 r), λ r. (e t x).1 ((h t x).1 r))
-same_leads R S Ends e h = λ t x. (λ r. (h t x).0 ((e t x).0 r), λ r. (e t x).1 ((h t x).1 r))
-same_leads R S Stuck e h = λ t x r. h t x ((e t x).0 r)
+pub same_leads : (R S : List ℕ → List ℕ → Type 0) (m : Option Taken) → ((t x : List ℕ) → R t x ↔ S t x) → LeadsTo S m → LeadsTo R m
+same_leads R S (Some (Part p)) e h = ((λ t x. (λ r. (h.0 t x).0 ((e t x).0 r), λ r. (e t x).1 ((h.0 t x).1 r))), h.1)
+same_leads R S (Some (Whole c)) e h = λ t x. (λ r. (h t x).0 ((e t x).0 r), λ r. (e t x).1 ((h t x).1 r))
+same_leads R S (Some Quote) e h = λ t x. (λ r. (h t x).0 ((e t x).0 r), λ r. (e t x).1 ((h t x).1 r))
+same_leads R S None e h = λ t x r. h t x ((e t x).0 r)
 
 -- digits of a code unit
-left_behind : (p : Place) → digits_left p ≡ suc (digits_behind p)
-left_behind First = refl
-left_behind Second = refl
-left_behind Third = refl
-left_behind Fourth = refl
+left_after : (p : DigitPlace) → digits_left p ≡ suc (digits_after p)
+left_after First = refl
+left_after Second = refl
+left_after Third = refl
+left_after Fourth = refl
 
-pub digit_at : (p : Place) (v c w : ℕ) (P : ℕ → List ℕ → Type 0) (t : List ℕ) → IsHexDigit c w → Digits (digits_left p) v (c ∷ t) P ↔ Digits (digits_behind p) (v * 16 + w) t P
-digit_at p v c w P t is = subst (λ (n : ℕ). Digits n v (c ∷ t) P ↔ Digits (digits_behind p) (v * 16 + w) t P) (sym (left_behind p)) (digit (digits_behind p) v c w P t is)
+pub digit_at : (p : DigitPlace) (v c w : ℕ) (P : ℕ → List ℕ → Type 0) (t : List ℕ) → IsHexDigit c w → Digits (digits_left p) v (c ∷ t) P ↔ Digits (digits_after p) (v * 16 + w) t P
+digit_at p v c w P t is = subst (λ (n : ℕ). Digits n v (c ∷ t) P ↔ Digits (digits_after p) (v * 16 + w) t P) (sym (left_after p)) (digit (digits_after p) v c w P t is)
 
-pub no_digit_at : (p : Place) (v c : ℕ) (P : ℕ → List ℕ → Type 0) (t : List ℕ) → ((w : ℕ) → IsHexDigit c w → ⊥) → Digits (digits_left p) v (c ∷ t) P → ⊥
-no_digit_at p v c P t never h = no_digit (digits_behind p) v c P t never (subst (λ (n : ℕ). Digits n v (c ∷ t) P) (left_behind p) h)
+pub no_digit_at : (p : DigitPlace) (v c : ℕ) (P : ℕ → List ℕ → Type 0) (t : List ℕ) → ((w : ℕ) → IsHexDigit c w → ⊥) → Digits (digits_left p) v (c ∷ t) P → ⊥
+no_digit_at p v c P t never h = no_digit (digits_after p) v c P t never (subst (λ (n : ℕ). Digits n v (c ∷ t) P) (left_after p) h)
 
 -- the number of digits that are left, by the place
-pub same_digits : (p q : Place) (n v : ℕ) (P : List ℕ → ℕ → List ℕ → Type 0) → p ≡ q → digits_behind q ≡ n → (t x : List ℕ) → Digits (digits_behind p) v t (P x) ↔ Digits n v t (P x)
-same_digits p q n v P e f t x = subst (λ (k : ℕ). Digits k v t (P x) ↔ Digits n v t (P x)) (sym (ap digits_behind e ∙ f)) (λ h. h, λ h. h)
+pub same_digits : (p q : DigitPlace) (n v : ℕ) (P : List ℕ → ℕ → List ℕ → Type 0) → p ≡ q → digits_after q ≡ n → (t x : List ℕ) → Digits (digits_after p) v t (P x) ↔ Digits n v t (P x)
+same_digits p q n v P e f t x = subst (λ (k : ℕ). Digits k v t (P x) ↔ Digits n v t (P x)) (sym (ap digits_after e ∙ f)) (λ h. h, λ h. h)
 
-pub below_place : (p q : Place) (v : ℕ) → p ≡ q → v < 16 * values_before p → v < 16 * values_before q
-below_place p q v e l = subst (λ (z : Place). v < 16 * values_before z) e l
+pub below_place : (p q : DigitPlace) (v : ℕ) → p ≡ q → v < 16 * values_before p → v < 16 * values_before q
+below_place p q v e l = subst (λ (z : DigitPlace). v < 16 * values_before z) e l
 
 pub high_unit : (u : ℕ) → u / 1024 ≡ 54 → (t x : List ℕ) → AfterUnit u t x ↔ AfterHigh u t x
 high_unit u e t x = (by, λ h. inr ((omega arith, omega arith), h))
@@ -55,7 +55,7 @@ high_unit u e t x = (by, λ h. inr ((omega arith, omega arith), h))
     by (inr h) = h.1
 
 -- bytes of a character in UTF-8
-pub last_byte : (v least most c w : ℕ) → least ≤ c → c ≤ most → w ≡ with_bits v c → (t x : List ℕ) → Continues 0 v least most (c ∷ t) x ↔ (IsScalar w × Then w t x)
+pub last_byte : (v least most c w : ℕ) → least ≤ c → c ≤ most → w ≡ with_bits v c → (t x : List ℕ) → Continues 0 v least most (c ∷ t) x ↔ (IsScalar w × FollowedBy w t x)
 last_byte v least most c w l u e t x = (
   (λ h. let k = heads h.4 in
       let same : w ≡ with_bits v h.0 = omega (arith, k.0) in
@@ -71,7 +71,7 @@ next_byte n v least most c w l u e t x = (
   λ h. (c, t, l, u, refl, subst (λ (z : ℕ). Continues n z 128 191 t x) e h),
 )
 
-pub ends_bytes : (left : Left) (v least most : ℕ) → 128 ≤ least → least ≤ most → AreScalar (values_behind left) (with_bits v least) (with_bits v most) → (t x : List ℕ) × Continues (bytes_behind left) v least most t x
+pub ends_bytes : (left : BytesLeft) (v least most : ℕ) → 128 ≤ least → least ≤ most → AreScalar (values_after left) (with_bits v least) (with_bits v most) → (t x : List ℕ) × Continues (bytes_after left) v least most t x
 ends_bytes One v least most l o are = ends_one v least most l o are
 ends_bytes Two v least most l o are = ends_two v least most l o are
 ends_bytes Three v least most l o are = ends_three v least most l o are

@@ -1,7 +1,7 @@
--- Behind a backslash.
+-- After a backslash.
 use Rattle.std.proofs.Common.{◌≡◌, ◌↔◌, ℕ, ◌≢◌, List, ◌∷◌, ◌++◌, ap, sym, subst, ◌∙◌, refl, arith}
 use Rattle.lot_json.specs.Characters.{Characters, IsShortEscape}
-use Rattle.lot_json.specs.Then.{Then}
+use Rattle.lot_json.specs.Characters.{FollowedBy}
 use Rattle.lot_json.specs.CodeUnit.{Digits, AfterHigh, AfterLow, AfterUnit}
 use Rattle.lot_json.proofs.Utf8.{heads}
 use Rattle.lot_json.proofs.Spellings.{Escape, letter, digits, escape_ahead, escape_back}
@@ -14,10 +14,10 @@ same_letter e c d h k = omega (arith, h, k)
 no_letter_u : (c : ℕ) → IsShortEscape 117 c → ⊥
 no_letter_u c h = omega (arith, h)
 
-pub short_escape : (e c : ℕ) → IsShortEscape e c → (t x : List ℕ) → Characters (92 ∷ e ∷ t) x ↔ Then c t x
+pub short_escape : (e c : ℕ) → IsShortEscape e c → (t x : List ℕ) → Characters (92 ∷ e ∷ t) x ↔ FollowedBy c t x
 short_escape e c is t x = (λ h. by (escape_ahead (e ∷ t) x h), λ h. escape_back (e ∷ t) x (letter e c t is refl h))
   where
-    by : Escape (e ∷ t) x → Then c t x
+    by : Escape (e ∷ t) x → FollowedBy c t x
     by (letter l d r k f h) = let p = heads f in then_at c d r t x (same_letter e c d is (subst (λ (z : ℕ). IsShortEscape z d) (sym p.0) k)) p.1 h
     by (digits ds r u k f h) = absurd (no_letter_u c (subst (λ (z : ℕ). IsShortEscape z c) (heads f).0 is))
 

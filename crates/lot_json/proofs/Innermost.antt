@@ -2,7 +2,7 @@
 use Rattle.std.proofs.Common.{◌≡◌, ℕ, ◌-◌, ◌<◌, suc, List, [], ◌∷◌, ◌++◌, length, take, take-suc, get_or, set, reverse, refl, sym, ◌∙◌, ap, arith}
 use Rattle.std.proofs.lemmas.List.{reverse-append, take-set, take_all, get_or-set_same, length-set}
 
--- The last of n behind the others.
+-- The last of n after the others.
 ends_with : {A : Type 0} (xs : List A) (n : ℕ) (d : A) → n ≡ length xs → 0 < n → xs ≡ take (n - 1) xs ++ get_or xs (n - 1) d ∷ []
 ends_with xs n d e l =
     let whole : n ≡ suc (n - 1) = omega (arith, l) in
@@ -10,8 +10,8 @@ ends_with xs n d e l =
 
 pub innermost : {A : Type 0} (xs : List A) (n : ℕ) (o : A) → n ≡ length xs → 0 < n → o ≡ get_or xs (n - 1) o → reverse xs ≡ o ∷ reverse (take (n - 1) xs)
 innermost {A} xs n o e l is =
-    let front = take (n - 1) xs in
-    ap reverse (ends_with xs n o e l) ∙ reverse-append front (get_or xs (n - 1) o ∷ []) ∙ ap (λ (z : A). z ∷ reverse front) (sym is)
+    let prefix = take (n - 1) xs in
+    ap reverse (ends_with xs n o e l) ∙ reverse-append prefix (get_or xs (n - 1) o ∷ []) ∙ ap (λ (z : A). z ∷ reverse prefix) (sym is)
 
 pub last_set : {A : Type 0} (xs : List A) (n : ℕ) (o : A) → n ≡ length xs → 0 < n → reverse (set xs (n - 1) o) ≡ o ∷ reverse (take (n - 1) xs)
 last_set {A} xs n o e l =

@@ -1,12 +1,12 @@
--- What a number token still has to read, in other words; that there always is such a rest; and the room it needs.
+-- What remains to be read of a number token, in other words; that there always is such a rest; and the room it needs.
 use Rattle.std.proofs.Common.{◌≡◌, ◌↔◌, ℕ, ℤ, pos, ◌+◌, ◌≤◌, ◌⊎◌, inr, Bool, true, false, List, [], ◌∷◌, refl, sym, subst, arith}
-use Rattle.lot_json.specs.declared.number.Number.{Number}
-use Rattle.lot_json.specs.declared.number_token.NumberToken.{NumberToken}
-use Rattle.lot_json.specs.declared.number_token.Place.{Place}
-use Rattle.lot_json.specs.declared.number_token.Place.TheVariants.{Start, Zero, Whole, Point, Fraction, Exponent, Sign, Power}
-use Rattle.lot_json.specs.Token.{IsExponent}
-use Rattle.lot_json.specs.NumberRest.{NumberRest, RestAt, CanEndNumber, HasRoom, settled, signed}
-use Rattle.lot_json.specs.NumberSteps.{StepsFrom, Takes}
+use Rattle.lot_json.specs.declared.tree.number.Number.{Number}
+use Rattle.lot_json.specs.declared.tokens.number_token.NumberToken.{NumberToken}
+use Rattle.lot_json.specs.declared.tokens.number_token.NumberPlace.{NumberPlace}
+use Rattle.lot_json.specs.declared.tokens.number_token.NumberPlace.TheVariants.{Start, Zero, Whole, Point, Fraction, Exponent, Sign, Power}
+use Rattle.lot_json.specs.NumberToken.{IsExponent}
+use Rattle.lot_json.specs.NumberRest.{NumberRest, RestAt, CanEndNumber, HasRoom, completed_number, signed_power}
+use Rattle.lot_json.specs.NumberSteps.{ContinuesFrom, Takes}
 
 pub heads : {c d : ℕ} {r s : List ℕ} → c ∷ r ≡ d ∷ s → (c ≡ d) × (r ≡ s)
 heads e = (cc, cc)
@@ -14,9 +14,9 @@ heads e = (cc, cc)
 -- ---- the same rest in other words
 
 pub steps_along : (P Q : List ℕ → Number → Type 0) (c : ℕ) (s s' : NumberToken) → ((t : List ℕ) (m : Number) → P (c ∷ t) m ↔ Q (c ∷ t) m)
-    → StepsFrom P c s s' → StepsFrom Q c s s'
+    → ContinuesFrom P c s s' → ContinuesFrom Q c s s'
 steps_along P Q c s s' same h = record {
-  goes = λ t m. (λ q. (h.goes t m).0 ((same t m).1 q), λ r. (same t m).0 ((h.goes t m).1 r));
+  continues = λ t m. (λ q. (h.continues t m).0 ((same t m).1 q), λ r. (same t m).0 ((h.continues t m).1 r));
   byte = h.byte;
   can_end = h.can_end;
   room = h.room;
@@ -25,23 +25,23 @@ steps_along P Q c s s' same h = record {
 pub along : (b : Bool) (P Q : List ℕ → Number → Type 0) (c : ℕ) (s s' : NumberToken) → ((t : List ℕ) (m : Number) → P (c ∷ t) m ↔ Q (c ∷ t) m)
     → Takes b P c s s' → Takes b Q c s s'
 along true P Q c s s' same h = steps_along P Q c s s' same h
-along false P Q c s s' same h = record { stuck = λ t m q. h.stuck t m ((same t m).1 q); same = h.same }
+along false P Q c s s' same h = record { rejects = λ t m q. h.rejects t m ((same t m).1 q); same = h.same }
 
-pub at_place : (p : Place) (s : NumberToken) → s.place ≡ p → (t : List ℕ) (m : Number) → RestAt p s t m ↔ NumberRest s t m
+pub at_place : (p : NumberPlace) (s : NumberToken) → s.place ≡ p → (t : List ℕ) (m : Number) → RestAt p s t m ↔ NumberRest s t m
 unfolding NumberRest
-at_place p s e t m = (λ h. subst (λ (q : Place). RestAt q s t m) (sym e) h, λ h. subst (λ (q : Place). RestAt q s t m) e h)
+at_place p s e t m = (λ h. subst (λ (q : NumberPlace). RestAt q s t m) (sym e) h, λ h. subst (λ (q : NumberPlace). RestAt q s t m) e h)
 
 -- ---- each token can be ended
 
-end_at : (p : Place) (s : NumberToken) → (t : List ℕ) × (m : Number) × RestAt p s t m
-end_at Start s = (48 ∷ [], settled s (48 ∷ []) [] (pos 0), (48 ∷ [], [], [], [], pos 0, (omega arith, omega arith), refl, refl, refl, refl))
-end_at Zero s = ([], settled s [] [] (pos 0), ([], [], [], [], pos 0, refl, refl, refl, refl, refl))
-end_at Whole s = ([], settled s [] [] (pos 0), ([], [], [], [], pos 0, tt, refl, refl, refl, refl))
-end_at Point s = (48 ∷ [], settled s [] (48 ∷ []) (pos 0), (48 ∷ [], [], pos 0, ((omega arith, omega arith), tt), refl, refl, refl))
-end_at Fraction s = ([], settled s [] [] (pos 0), ([], [], pos 0, tt, refl, refl, refl))
-end_at Exponent s = (48 ∷ [], settled s [] [] (pos 0), (pos 0, inr (inr (((omega arith, omega arith), tt), refl)), refl))
-end_at (Sign minus) s = (48 ∷ [], settled s [] [] (signed minus 0), (((omega arith, omega arith), tt), refl))
-end_at (Power minus n) s = ([], settled s [] [] (signed minus n), (tt, refl))
+end_at : (p : NumberPlace) (s : NumberToken) → (t : List ℕ) × (m : Number) × RestAt p s t m
+end_at Start s = (48 ∷ [], completed_number s (48 ∷ []) [] (pos 0), (48 ∷ [], [], [], [], pos 0, (omega arith, omega arith), refl, refl, refl, refl))
+end_at Zero s = ([], completed_number s [] [] (pos 0), ([], [], [], [], pos 0, refl, refl, refl, refl, refl))
+end_at Whole s = ([], completed_number s [] [] (pos 0), ([], [], [], [], pos 0, tt, refl, refl, refl, refl))
+end_at Point s = (48 ∷ [], completed_number s [] (48 ∷ []) (pos 0), (48 ∷ [], [], pos 0, ((omega arith, omega arith), tt), refl, refl, refl))
+end_at Fraction s = ([], completed_number s [] [] (pos 0), ([], [], pos 0, tt, refl, refl, refl))
+end_at Exponent s = (48 ∷ [], completed_number s [] [] (pos 0), (pos 0, inr (inr (((omega arith, omega arith), tt), refl)), refl))
+end_at (Sign minus) s = (48 ∷ [], completed_number s [] [] (signed_power minus 0), (((omega arith, omega arith), tt), refl))
+end_at (Power minus n) s = ([], completed_number s [] [] (signed_power minus n), (tt, refl))
 
 pub can_end : (s : NumberToken) → CanEndNumber s
 unfolding NumberRest

@@ -3,26 +3,26 @@ use Rattle.std.proofs.Common.{◌≡◌, ◌↔◌, ◌⊎◌, ℕ, ◌+◌, ◌
 use Rattle.std.proofs.lemmas.List.{take-append-le, take-take, length-take, length-take-le}
 use Rattle.std.proofs.Math.Seq.{take-add, take-append-add, take-length}
 use Rattle.std.proofs.lemmas.Bool.{cases_lt}
-use Rattle.lot_json.specs.declared.json.Json.{Json}
-use Rattle.lot_json.specs.declared.json.Json.TheVariants as tree
-use Rattle.lot_json.specs.declared.machine.state.Machine.{Machine}
+use Rattle.lot_json.specs.declared.tree.json.Json.{Json}
+use Rattle.lot_json.specs.declared.tree.json.Json.TheVariants as tree
+use Rattle.lot_json.specs.declared.machine.machine.Machine.{Machine}
 use Rattle.lot_json.specs.declared.refusal.JsonRefusal.{JsonRefusal}
 use Rattle.lot_json.specs.declared.refusal.JsonRefusal.TheVariants as refusal
-use Rattle.lot_json.specs.Grammar.{Text, element_value, null_value}
-use Rattle.lot_json.specs.Viable.{IsViable, IsFar}
-use Rattle.lot_json.specs.Refusal.{IsOnlyTree, IsDead, IsRefused, IsBroken, IsNoText}
-use Rattle.lot_json.specs.Reading.{State, state_of}
-use Rattle.lot_json.specs.Residual.{Left, Steps, GoesTo, BreaksAt}
-use Rattle.lot_json.specs.Stands.{Reads, HasRead}
+use Rattle.lot_json.specs.Grammar.{JsonText, element_value, null_value}
+use Rattle.lot_json.specs.Viable.{IsViable, IsViableLength}
+use Rattle.lot_json.specs.Refusal.{IsOnlyTree, IsNotViable, IsRefused, IsNoJsonText, IsNoText}
+use Rattle.lot_json.specs.Pending.{State, state_of}
+use Rattle.lot_json.specs.Residual.{Remaining, Transition, ContinuesTo, RejectsAt}
+use Rattle.lot_json.specs.Fed.{Reads, HasTaken}
 
-pub front_viable : (b c : List ℕ) → IsViable (b ++ c) → IsViable b
-front_viable b c (r, (x, t)) = (c ++ r, (x, subst (λ (z : List ℕ). Text z x) (append_assoc b c r) t))
+pub prefix_viable : (b c : List ℕ) → IsViable (b ++ c) → IsViable b
+prefix_viable b c (r, (x, t)) = (c ++ r, (x, subst (λ (z : List ℕ). JsonText z x) (append_assoc b c r) t))
 
-pub text_viable : (b : List ℕ) (x : Json) → Text b x → IsViable b
-text_viable b x t = ([], (x, subst (λ (z : List ℕ). Text z x) (sym (append-nil b)) t))
+pub text_viable : (b : List ℕ) (x : Json) → JsonText b x → IsViable b
+text_viable b x t = ([], (x, subst (λ (z : List ℕ). JsonText z x) (sym (append-nil b)) t))
 
 -- A machine that has read nothing.
-pub reads_nothing : (machine : Machine) → ((r : List ℕ) (x : Json) → Text r x ↔ Left (state_of machine) r x) → Reads machine 0 []
+pub reads_nothing : (machine : Machine) → ((r : List ℕ) (x : Json) → JsonText r x ↔ Remaining (state_of machine) r x) → Reads machine 0 []
 reads_nothing machine k = record {
   counted = refl;
   ahead = λ r x t. (k r x).0 t;
@@ -31,65 +31,65 @@ reads_nothing machine k = record {
 }
 
 -- Some bytes more.
-pub goes_on : (old new : Machine) (n k : ℕ) (b bytes : List ℕ) → Reads old n b → Steps bytes (state_of old) (state_of new) → k ≡ min (n + length bytes) (2 ^ 64 - 1) → Reads new k (b ++ bytes)
-goes_on old new n k b bytes h step e = record {
+pub must_continue : (old new : Machine) (n k : ℕ) (b bytes : List ℕ) → Reads old n b → Transition bytes (state_of old) (state_of new) → k ≡ min (n + length bytes) (2 ^ 64 - 1) → Reads new k (b ++ bytes)
+must_continue old new n k b bytes h step e = record {
   counted = e ∙ (let q = h.counted in let l = length-append b bytes in omega arith);
-  ahead = λ r x t. step.ahead r x (h.ahead (bytes ++ r) x (subst (λ (z : List ℕ). Text z x) (append_assoc b bytes r) t));
-  back = λ r x p. subst (λ (z : List ℕ). Text z x) (sym (append_assoc b bytes r)) (h.back (bytes ++ r) x (step.back r x p));
+  ahead = λ r x t. step.ahead r x (h.ahead (bytes ++ r) x (subst (λ (z : List ℕ). JsonText z x) (append_assoc b bytes r) t));
+  back = λ r x p. subst (λ (z : List ℕ). JsonText z x) (sym (append_assoc b bytes r)) (h.back (bytes ++ r) x (step.back r x p));
   live = step.live h.live;
 }
 
 pub is_viable : (machine : Machine) (n : ℕ) (b : List ℕ) → Reads machine n b → IsViable b
 is_viable machine n b h = (h.live.0, (h.live.1, h.back h.live.0 h.live.1 h.live.2))
 
-not_viable : (machine : Machine) (n k : ℕ) (b rest : List ℕ) → Reads machine n b → BreaksAt k rest (state_of machine) → IsViable (b ++ rest) → ⊥
-not_viable machine n k b rest h stuck v =
+not_viable : (machine : Machine) (n k : ℕ) (b rest : List ℕ) → Reads machine n b → RejectsAt k rest (state_of machine) → IsViable (b ++ rest) → ⊥
+not_viable machine n k b rest h rejected v =
     let split : rest ++ v.0 ≡ take (k + 1) rest ++ (drop (k + 1) rest ++ v.0) = ap (λ (z : List ℕ). z ++ v.0) (sym (take-append-drop (k + 1) rest)) ∙ append_assoc (take (k + 1) rest) (drop (k + 1) rest) v.0 in
-    stuck.dead (drop (k + 1) rest ++ v.0) v.1.0
-    (subst (λ (z : List ℕ). Left (state_of machine) z v.1.0) split (h.ahead (rest ++ v.0) v.1.0 (subst (λ (z : List ℕ). Text z v.1.0) (append_assoc b rest v.0) v.1.1)))
+    rejected.dead (drop (k + 1) rest ++ v.0) v.1.0
+    (subst (λ (z : List ℕ). Remaining (state_of machine) z v.1.0) split (h.ahead (rest ++ v.0) v.1.0 (subst (λ (z : List ℕ). JsonText z v.1.0) (append_assoc b rest v.0) v.1.1)))
 
--- A front that is longer than b.
-longer_front : (b s : List ℕ) (j : ℕ) → length b < j → take j (b ++ s) ≡ b ++ take (j - length b) s
-longer_front b s j k = let e : j ≡ length b + (j - length b) = omega arith in ap (λ (z : ℕ). take z (b ++ s)) e ∙ take-append-add b s (j - length b)
+-- A prefix that is longer than b.
+longer_prefix : (b s : List ℕ) (j : ℕ) → length b < j → take j (b ++ s) ≡ b ++ take (j - length b) s
+longer_prefix b s j k = let e : j ≡ length b + (j - length b) = omega arith in ap (λ (z : ℕ). take z (b ++ s)) e ∙ take-append-add b s (j - length b)
 
--- What breaks in some bytes breaks in a longer front of theirs too.
-still_breaks : (n k : ℕ) (bytes : List ℕ) (old : State) → k < n → BreaksAt k bytes old → BreaksAt k (take n bytes) old
+-- What breaks in some bytes breaks in a longer prefix of theirs too.
+still_breaks : (n k : ℕ) (bytes : List ℕ) (old : State) → k < n → RejectsAt k bytes old → RejectsAt k (take n bytes) old
 still_breaks n k bytes old l h =
     let t : take (k + 1) (take n bytes) ≡ take (k + 1) bytes = take-take (k + 1) n bytes (omega (arith, l)) in
     let u : take k (take n bytes) ≡ take k bytes = take-take k n bytes (omega (arith, l)) in
     record {
       within = let q = length-take n bytes in omega (arith, q, l, h.within);
-      live = λ can. let q = h.live can in (q.0, q.1, subst (λ (z : List ℕ). Left old (z ++ q.0) q.1) (sym u) q.2);
-      dead = λ r x p. h.dead r x (subst (λ (z : List ℕ). Left old (z ++ r) x) t p);
+      live = λ can. let q = h.live can in (q.0, q.1, subst (λ (z : List ℕ). Remaining old (z ++ q.0) q.1) (sym u) q.2);
+      dead = λ r x p. h.dead r x (subst (λ (z : List ℕ). Remaining old (z ++ r) x) t p);
     }
 
--- The machine is stuck behind the first k bytes.
-pub is_refused : (machine : Machine) (n m k : ℕ) (b rest : List ℕ) → Reads machine n b → BreaksAt k rest (state_of machine) → m ≡ min (n + k) (2 ^ 64 - 1) → IsDead (b ++ rest) m
-is_refused machine n m k b rest h stuck e = record {
-  dead = not_viable machine n k b rest h stuck;
+-- The machine rejects the byte after the first k.
+pub is_refused : (machine : Machine) (n m k : ℕ) (b rest : List ℕ) → Reads machine n b → RejectsAt k rest (state_of machine) → m ≡ min (n + k) (2 ^ 64 - 1) → IsNotViable (b ++ rest) m
+is_refused machine n m k b rest h rejected e = record {
+  dead = not_viable machine n k b rest h rejected;
   far = (
     length b + k,
     record {
-      within = let l = length-append b rest in omega (arith, l, stuck.within);
+      within = let l = length-append b rest in omega (arith, l, rejected.within);
       viable =
-          let q = stuck.live h.live in
-          subst (λ (z : List ℕ). IsViable z) (sym (take-append-add b rest k)) (q.0, (q.1, subst (λ (z : List ℕ). Text z q.1) (sym (append_assoc b (take k rest) q.0)) (h.back (take k rest ++ q.0) q.1 q.2)));
+          let q = rejected.live h.live in
+          subst (λ (z : List ℕ). IsViable z) (sym (take-append-add b rest k)) (q.0, (q.1, subst (λ (z : List ℕ). JsonText z q.1) (sym (append_assoc b (take k rest) q.0)) (h.back (take k rest ++ q.0) q.1 q.2)));
       longest = λ j l m v.
-          not_viable machine n k b (take (j - length b) rest) h (still_breaks (j - length b) k rest (state_of machine) (omega (arith, l)) stuck)
-          (subst (λ (z : List ℕ). IsViable z) (longer_front b rest j (omega (arith, l))) v);
+          not_viable machine n k b (take (j - length b) rest) h (still_breaks (j - length b) k rest (state_of machine) (omega (arith, l)) rejected)
+          (subst (λ (z : List ℕ). IsViable z) (longer_prefix b rest j (omega (arith, l))) v);
     },
     e ∙ (let q = h.counted in omega (arith, q)),
   );
 }
 
-longest_of : (b more : List ℕ) (k : ℕ) → (IsViable b → ⊥) → IsFar b k → (j : ℕ) → k < j → j ≤ length (b ++ more) → (length b < j) ⊎ (j ≤ length b) → IsViable (take j (b ++ more)) → ⊥
+longest_of : (b more : List ℕ) (k : ℕ) → (IsViable b → ⊥) → IsViableLength b k → (j : ℕ) → k < j → j ≤ length (b ++ more) → (length b < j) ⊎ (j ≤ length b) → IsViable (take j (b ++ more)) → ⊥
 longest_of b more k dead far j l m (inr s) v = far.longest j l s (subst (λ (z : List ℕ). IsViable z) (take-append-le j b more s) v)
-longest_of b more k dead far j l m (inl s) v = dead (front_viable b (take (j - length b) more) (subst (λ (z : List ℕ). IsViable z) (longer_front b more j s) v))
+longest_of b more k dead far j l m (inl s) v = dead (prefix_viable b (take (j - length b) more) (subst (λ (z : List ℕ). IsViable z) (longer_prefix b more j s) v))
 
 -- More bytes change nothing.
-dead_more : (b more : List ℕ) (k : ℕ) → IsDead b k → IsDead (b ++ more) k
+dead_more : (b more : List ℕ) (k : ℕ) → IsNotViable b k → IsNotViable (b ++ more) k
 dead_more b more k h = record {
-  dead = λ v. h.dead (front_viable b more v);
+  dead = λ v. h.dead (prefix_viable b more v);
   far = (
     h.far.0,
     record {
@@ -110,9 +110,9 @@ refused_text (refusal.Syntax k) b h = record { none = λ t. h.dead (text_viable 
 refused_text refusal.Memory b h = tt
 
 -- The bytes end where the machine cannot.
-pub is_broken : (machine : Machine) (n : ℕ) (b : List ℕ) → Reads machine n b → ((x : Json) → Left (state_of machine) [] x → ⊥) → IsBroken b n
-is_broken machine n b h k = record {
-  none = λ t. k t.0 (h.ahead [] t.0 (subst (λ (z : List ℕ). Text z t.0) (sym (append-nil b)) t.1));
+pub is_no_json_text : (machine : Machine) (n : ℕ) (b : List ℕ) → Reads machine n b → ((x : Json) → Remaining (state_of machine) [] x → ⊥) → IsNoJsonText b n
+is_no_json_text machine n b h k = record {
+  none = λ t. k t.0 (h.ahead [] t.0 (subst (λ (z : List ℕ). JsonText z t.0) (sym (append-nil b)) t.1));
   far = (
     length b,
     record {
@@ -124,17 +124,17 @@ is_broken machine n b h k = record {
   );
 }
 
-pub is_only : (machine : Machine) (n : ℕ) (b : List ℕ) (x : Json) → Reads machine n b → ((y : Json) → Left (state_of machine) [] y ↔ (y ≡ x)) → IsOnlyTree b x
+pub is_only : (machine : Machine) (n : ℕ) (b : List ℕ) (x : Json) → Reads machine n b → ((y : Json) → Remaining (state_of machine) [] y ↔ (y ≡ x)) → IsOnlyTree b x
 is_only machine n b x h k = record {
-  text = subst (λ (z : List ℕ). Text z x) (append-nil b) (h.back [] x ((k x).1 refl));
-  only = λ y t. (k y).0 (h.ahead [] y (subst (λ (z : List ℕ). Text z y) (sym (append-nil b)) t));
+  text = subst (λ (z : List ℕ). JsonText z x) (append-nil b) (h.back [] x ((k x).1 refl));
+  only = λ y t. (k y).0 (h.ahead [] y (subst (λ (z : List ℕ). JsonText z y) (sym (append-nil b)) t));
 }
 
--- Some bytes at the front of a piece.
-pub goes_to : (old new : Machine) (n m k : ℕ) (piece : List ℕ) → GoesTo k piece (state_of old) (state_of new) → m ≡ min (n + k) (2 ^ 64 - 1) → (b : List ℕ) → Reads old n b → Reads new m (b ++ take k piece)
-goes_to old new n m k piece g e b h = goes_on old new n m b (take k piece) h g.steps (e ∙ ap (λ (z : ℕ). min (n + z) (2 ^ 64 - 1)) (sym (length-take-le k piece g.within)))
+-- A prefix of a piece.
+pub continues_to : (old new : Machine) (n m k : ℕ) (piece : List ℕ) → ContinuesTo k piece (state_of old) (state_of new) → m ≡ min (n + k) (2 ^ 64 - 1) → (b : List ℕ) → Reads old n b → Reads new m (b ++ take k piece)
+continues_to old new n m k piece g e b h = must_continue old new n m b (take k piece) h g.steps (e ∙ ap (λ (z : ℕ). min (n + z) (2 ^ 64 - 1)) (sym (length-take-le k piece g.within)))
 
--- A part of a piece behind another.
+-- A part of a piece after another.
 pub part_read : (first old new : Machine) (start n m i k : ℕ) (piece rest : List ℕ) → rest ≡ drop i piece
     → ((b : List ℕ) → Reads first start b → Reads old n (b ++ take i piece)) → ((b : List ℕ) → Reads old n b → Reads new m (b ++ take k rest))
     → (b : List ℕ) → Reads first start b → Reads new m (b ++ take (i + k) piece)
@@ -153,11 +153,11 @@ rest_refused first old start n i piece rest e is before now b h =
     (now (b ++ take i piece) (before b h))
 
 -- A decoder that has refused what it was fed.
-pub stands_refused : (o : Option JsonRefusal) (e : JsonRefusal) (machine : Machine) (n : ℕ) (b more : List ℕ) → o ≡ Some e → HasRead o machine n b → IsRefused e (b ++ more)
-stands_refused o e machine n b more is h = refused_more e b more (subst (λ (z : Option JsonRefusal). HasRead z machine n b) is h)
+pub fed_refused : (o : Option JsonRefusal) (e : JsonRefusal) (machine : Machine) (n : ℕ) (b more : List ℕ) → o ≡ Some e → HasTaken o machine n b → IsRefused e (b ++ more)
+fed_refused o e machine n b more is h = refused_more e b more (subst (λ (z : Option JsonRefusal). HasTaken z machine n b) is h)
 
-pub stands_still : (o : Option JsonRefusal) (e : JsonRefusal) (machine : Machine) (n : ℕ) (b more : List ℕ) → o ≡ Some e → HasRead o machine n b → HasRead o machine n (b ++ more)
-stands_still o e machine n b more is h = subst (λ (z : Option JsonRefusal). HasRead z machine n (b ++ more)) (sym is) (stands_refused o e machine n b more is h)
+pub fed_still : (o : Option JsonRefusal) (e : JsonRefusal) (machine : Machine) (n : ℕ) (b more : List ℕ) → o ≡ Some e → HasTaken o machine n b → HasTaken o machine n (b ++ more)
+fed_still o e machine n b more is h = subst (λ (z : Option JsonRefusal). HasTaken z machine n (b ++ more)) (sym is) (fed_refused o e machine n b more is h)
 
-pub stands_no_text : (o : Option JsonRefusal) (e : JsonRefusal) (machine : Machine) (n : ℕ) (b : List ℕ) → o ≡ Some e → HasRead o machine n b → IsNoText e b
-stands_no_text o e machine n b is h = refused_text e b (subst (λ (z : Option JsonRefusal). HasRead z machine n b) is h)
+pub fed_no_text : (o : Option JsonRefusal) (e : JsonRefusal) (machine : Machine) (n : ℕ) (b : List ℕ) → o ≡ Some e → HasTaken o machine n b → IsNoText e b
+fed_no_text o e machine n b is h = refused_text e b (subst (λ (z : Option JsonRefusal). HasTaken z machine n b) is h)

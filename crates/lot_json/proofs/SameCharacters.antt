@@ -3,9 +3,9 @@ use Rattle.std.proofs.Common.{◌≡◌, ℕ, ◌+◌, ◌-◌, ◌*◌, ◌≤�
 use Rattle.std.specs.Char.{IsScalar, encode_utf8}
 use Rattle.std.proofs.Math.Utf8.{scalar_cases}
 use Rattle.std.proofs.lemmas.Str.{encode_same}
-use Rattle.lot_json.specs.Characters.{Characters, close, more, Spelling, plain, short, unit, pair, IsUnescaped, IsShortEscape, IsHexDigit, FourDigits, IsHighSurrogate}
+use Rattle.lot_json.specs.Characters.{Characters, close, more, Spelling, unescaped, short, unit, pair, IsUnescaped, IsShortEscape, IsHexDigit, FourDigits, IsHighSurrogate}
 use Rattle.lot_json.proofs.Utf8.{heads, shape, first_byte}
-use Rattle.lot_json.proofs.Fronts.{along, regroup}
+use Rattle.lot_json.proofs.Prefixes.{along, regroup}
 
 -- ---- escapes
 
@@ -53,30 +53,30 @@ not_quote c r t is e = by (first_byte 34 c t r (shape c is.0) (sym e))
 
 -- ---- spellings
 
--- the text of a pair behind its first two bytes
+-- the text of a pair after its first two bytes
 pair_text : {b f ds : List ℕ} (s : List ℕ) → b ≡ f ++ s → f ≡ 92 ∷ 117 ∷ ds → b ≡ 92 ∷ 117 ∷ (ds ++ s)
 pair_text s e h = e ∙ ap (λ (z : List ℕ). z ++ s) h
 
--- the cut behind two bytes
+-- the cut after two bytes
 two_on : {a b c d : ℕ} {r q : List ℕ} → a ∷ b ∷ r ≡ c ∷ d ∷ q → (b ≡ d) × (r ≡ q)
 two_on e = heads (heads e).1
 
 pub same_spelling : {f g : List ℕ} {c d : ℕ} (r q : List ℕ) → Spelling f c → Spelling g d → f ++ r ≡ g ++ q → (c ≡ d) × (r ≡ q)
-same_spelling r q (plain is e) (plain js h) s = encode_same _ _ r q (along r q e h s)
-same_spelling r q (plain is e) (short l js h) s = absurd (not_escape _ r _ is (along r q e h s))
-same_spelling r q (plain is e) (unit js z) s = absurd (not_escape _ r _ is (along r q e js.2 s))
-same_spelling r q (plain is e) (pair first second u v k a l b h w) s = absurd (not_escape _ r _ is (along r q e (pair_text second h k.2) s))
-same_spelling r q (short l js h) (plain is e) s = absurd (not_escape _ q _ is (along q r e h (sym s)))
+same_spelling r q (unescaped is e) (unescaped js h) s = encode_same _ _ r q (along r q e h s)
+same_spelling r q (unescaped is e) (short l js h) s = absurd (not_escape _ r _ is (along r q e h s))
+same_spelling r q (unescaped is e) (unit js z) s = absurd (not_escape _ r _ is (along r q e js.2 s))
+same_spelling r q (unescaped is e) (pair first second u v k a l b h w) s = absurd (not_escape _ r _ is (along r q e (pair_text second h k.2) s))
+same_spelling r q (short l js h) (unescaped is e) s = absurd (not_escape _ q _ is (along q r e h (sym s)))
 same_spelling r q (short l is e) (short m js h) s = let i = two_on (along r q e h s) in (same_short l m _ _ is js i.0, i.1)
 same_spelling r q (short l is e) (unit js z) s = absurd (not_short l _ is (two_on (along r q e js.2 s)).0)
 same_spelling r q (short l is e) (pair first second u v k a m b h w) s = absurd (not_short l _ is (two_on (along r q e (pair_text second h k.2) s)).0)
-same_spelling r q (unit js z) (plain is e) s = absurd (not_escape _ q _ is (along q r e js.2 (sym s)))
+same_spelling r q (unit js z) (unescaped is e) s = absurd (not_escape _ q _ is (along q r e js.2 (sym s)))
 same_spelling r q (unit js z) (short l is e) s = absurd (not_short l _ is (two_on (along q r e js.2 (sym s))).0)
 same_spelling r q (unit is z) (unit js y) s = same_four r q is.1 js.1 (two_on (along r q is.2 js.2 s)).1
 same_spelling r q (unit is z) (pair first second u v k a m b h w) s =
     let i = same_four r (second ++ q) is.1 k.1 ((two_on (along r q is.2 (pair_text second h k.2) s)).1 ∙ append_assoc k.0 second q) in
     absurd (not_high z i.0 a)
-same_spelling r q (pair first second u v k a m b h w) (plain is e) s = absurd (not_escape _ q _ is (along q r e (pair_text second h k.2) (sym s)))
+same_spelling r q (pair first second u v k a m b h w) (unescaped is e) s = absurd (not_escape _ q _ is (along q r e (pair_text second h k.2) (sym s)))
 same_spelling r q (pair first second u v k a m b h w) (short l is e) s = absurd (not_short l _ is (two_on (along q r e (pair_text second h k.2) (sym s))).0)
 same_spelling r q (pair first second u v k a m b h w) (unit is z) s =
     let i = same_four q (second ++ r) is.1 k.1 ((two_on (along q r is.2 (pair_text second h k.2) (sym s))).1 ∙ append_assoc k.0 second r) in
@@ -89,7 +89,7 @@ same_spelling r q (pair first second u v k a m b h w) (pair first' second' u' v'
 
 -- no spelling begins with the quotation mark
 not_close : {f : List ℕ} {c : ℕ} (r t : List ℕ) → Spelling f c → f ++ r ≡ 34 ∷ t → ⊥
-not_close r t (plain is e) s = not_quote _ r t is (sym (ap (λ (z : List ℕ). z ++ r) e) ∙ s)
+not_close r t (unescaped is e) s = not_quote _ r t is (sym (ap (λ (z : List ℕ). z ++ r) e) ∙ s)
 not_close r t (short l is e) s = omega (arith, (heads (sym (ap (λ (z : List ℕ). z ++ r) e) ∙ s)).0)
 not_close r t (unit is z) s = omega (arith, (heads (sym (ap (λ (z : List ℕ). z ++ r) is.2) ∙ s)).0)
 not_close r t (pair first second u v k a m b h w) s = omega (arith, (heads (sym (ap (λ (z : List ℕ). z ++ r) (pair_text second h k.2)) ∙ s)).0)

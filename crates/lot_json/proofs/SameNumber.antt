@@ -1,16 +1,16 @@
 -- Where no more of a number may follow, a number token ends at one place, and its text is of one number.
 use Rattle.std.proofs.Common.{◌≡◌, ℕ, ℤ, pos, ◌-ℤ◌, ◌<◌, ◌⊎◌, inl, inr, Bool, true, false, List, [], ◌∷◌, ◌++◌, length, ap, sym, subst, ◌∙◌, refl, arith, append_assoc, if◌then◌else◌}
-use Rattle.lot_json.specs.declared.number.Number.{Number}
-use Rattle.lot_json.specs.Token.{Token, IsDigit, AreDigits, AreSomeDigits, IsWhole, IsFraction, IsPower, IsExponent, digits_value, micro}
+use Rattle.lot_json.specs.declared.tree.number.Number.{Number}
+use Rattle.lot_json.specs.NumberToken.{IsNumberToken, IsDigit, AreDigits, AreSomeDigits, IsWholePart, IsFraction, IsPower, IsExponent, digits_value, micro}
 use Rattle.lot_json.proofs.Utf8.{heads}
-use Rattle.lot_json.proofs.Fronts.{Stops}
+use Rattle.lot_json.proofs.Prefixes.{Stops}
 
--- no digit stands first
+-- no digit comes first
 abbrev StopsDigits : List ℕ → Type 0
 StopsDigits [] = Unit {0}
 StopsDigits (c ∷ cs) = (c < 48) ⊎ (57 < c)
 
--- neither a digit nor the point stands first
+-- neither a digit nor the point comes first
 abbrev StopsFraction : List ℕ → Type 0
 StopsFraction [] = Unit {0}
 StopsFraction (c ∷ cs) = (c < 46) ⊎ (57 < c)
@@ -50,17 +50,17 @@ some_digits (c ∷ a) h = h
 
 -- ---- the sign and the whole part
 
-whole_digits : (w : List ℕ) → IsWhole w → AreDigits w
+whole_digits : (w : List ℕ) → IsWholePart w → AreDigits w
 whole_digits [] h = tt
 whole_digits (c ∷ []) h = (h, tt)
 whole_digits (c ∷ d ∷ w) h = ((omega (arith, h.0), h.1), h.2)
 
-not_minus : (w a t : List ℕ) → IsWhole w → 45 ∷ t ≡ w ++ a → ⊥
+not_minus : (w a t : List ℕ) → IsWholePart w → 45 ∷ t ≡ w ++ a → ⊥
 not_minus [] a t h e = h
 not_minus (c ∷ []) a t h e = omega (arith, h.0, (heads e).0)
 not_minus (c ∷ d ∷ w) a t h e = omega (arith, h.0, (heads e).0)
 
-same_sign : (m n : Bool) (w v a b : List ℕ) → IsWhole w → IsWhole v → (if m then 45 ∷ [] else []) ++ (w ++ a) ≡ (if n then 45 ∷ [] else []) ++ (v ++ b) → (m ≡ n) × (w ++ a ≡ v ++ b)
+same_sign : (m n : Bool) (w v a b : List ℕ) → IsWholePart w → IsWholePart v → (if m then 45 ∷ [] else []) ++ (w ++ a) ≡ (if n then 45 ∷ [] else []) ++ (v ++ b) → (m ≡ n) × (w ++ a ≡ v ++ b)
 same_sign true true w v a b h k e = (refl, (heads e).1)
 same_sign true false w v a b h k e = absurd (not_minus v b (w ++ a) k e)
 same_sign false true w v a b h k e = absurd (not_minus w a (v ++ b) h (sym e))
@@ -129,7 +129,7 @@ exponent_stops (c ∷ f) u r h s = inr (omega (arith, h.0))
 
 -- ---- the token
 
-parts : {f : List ℕ} {m : Number} (t : Token f m) (r : List ℕ) → f ++ r ≡ (if t.minus then 45 ∷ [] else []) ++ (t.whole ++ (t.fraction ++ (t.exponent ++ r)))
+parts : {f : List ℕ} {m : Number} (t : IsNumberToken f m) (r : List ℕ) → f ++ r ≡ (if t.minus then 45 ∷ [] else []) ++ (t.whole ++ (t.fraction ++ (t.exponent ++ r)))
 parts t r =
     ap (λ (z : List ℕ). z ++ r) (t.spelled ∙ ap (λ (z : List ℕ). z ++ t.whole ++ t.fraction ++ t.exponent) t.is_sign) ∙ simp append_assoc
 
@@ -140,7 +140,7 @@ same_micro {m} {n} {w} {v} {d} {k} {a} {b} e f g h =
     ∙ ap (λ (z : List ℕ). micro n (digits_value (v ++ z)) (length z) a) g
     ∙ ap (λ (z : ℤ). micro n (digits_value (v ++ k)) (length k) z) h
 
-pub same_number : {f g : List ℕ} {m n : Number} (r q : List ℕ) → Token f m → Token g n → Stops r → Stops q → f ++ r ≡ g ++ q → (m ≡ n) × (r ≡ q)
+pub same_number : {f g : List ℕ} {m n : Number} (r q : List ℕ) → IsNumberToken f m → IsNumberToken g n → Stops r → Stops q → f ++ r ≡ g ++ q → (m ≡ n) × (r ≡ q)
 same_number r q t k s z e =
     let rest = exponent_stops t.exponent t.power r t.is_exponent s in
     let other = exponent_stops k.exponent k.power q k.is_exponent z in
@@ -151,5 +151,5 @@ same_number r q t k s z e =
     let d = same_exponent t.exponent k.exponent t.power k.power r q t.is_exponent k.is_exponent s z c.1 in
     (t.value ∙ same_micro a.0 b.0 c.0 d.0 ∙ sym k.value, d.1)
 
-pub one_number : (b : List ℕ) (m n : Number) → Token b m → Token b n → m ≡ n
+pub one_number : (b : List ℕ) (m n : Number) → IsNumberToken b m → IsNumberToken b n → m ≡ n
 one_number b m n t k = (same_number [] [] t k tt tt refl).0

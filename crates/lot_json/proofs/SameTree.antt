@@ -1,16 +1,16 @@
 -- A JSON text is of one tree. A value and each part of an array or an object ends at one place, where no more of a
 -- number may follow.
 use Rattle.std.proofs.Common.{◌≡◌, ℕ, inl, inr, List, [], ◌∷◌, ◌++◌, ap, sym, ◌∙◌, refl, arith, codes}
-use Rattle.lot_json.specs.declared.number.Number.{Number}
-use Rattle.lot_json.specs.declared.json.Json.{Json}
-use Rattle.lot_json.specs.declared.json.Json.TheVariants as tree
+use Rattle.lot_json.specs.declared.tree.number.Number.{Number}
+use Rattle.lot_json.specs.declared.tree.json.Json.{Json}
+use Rattle.lot_json.specs.declared.tree.json.Json.TheVariants as tree
 use Rattle.lot_json.specs.Grammar.{Value, null_value, true_value, false_value, number_value, text_value, array_value, object_value, Element, element_space, element_value, Items, items_space, items_close, items_first, MoreItems, more_items_space, more_items_close, more_items_next}
-use Rattle.lot_json.specs.Grammar.{Members, members_space, members_close, members_first, AfterQuote, after_quote_named, AfterName, after_name_space, after_name_colon, MoreMembers, more_members_space, more_members_close, more_members_next, NextMember, next_member_space, next_member_quote, Body, Text}
+use Rattle.lot_json.specs.Grammar.{Members, members_space, members_close, members_first, AfterQuote, after_quote_named, AfterName, after_name_space, after_name_colon, MoreMembers, more_members_space, more_members_close, more_members_next, NextMember, next_member_space, next_member_quote, Body, JsonText}
 use Rattle.lot_json.proofs.Utf8.{heads}
-use Rattle.lot_json.proofs.Fronts.{along, regroup, behind, Stops}
+use Rattle.lot_json.proofs.Prefixes.{along, regroup, same_rest, Stops}
 use Rattle.lot_json.proofs.SameNumber.{same_number}
 use Rattle.lot_json.proofs.SameCharacters.{same_characters}
-use Rattle.lot_json.proofs.ValueFronts.{meets, small, not_space, not_close, not_mark, items_stop, members_stop, spaces_stop}
+use Rattle.lot_json.proofs.ValuePrefixes.{meets, small, not_space, not_close, not_mark, items_stop, members_stop, spaces_stop}
 
 abbrev with_member : List ℕ → Json → List (List ℕ × Json) → List (List ℕ × Json)
 with_member name y ps = (name, y) ∷ ps
@@ -23,9 +23,9 @@ same_item {x} {y} {xs} {ys} e h = ap (λ (z : Json). z ∷ xs) e ∙ ap (λ (z :
 
 mutual
   same_value : {n m : ℕ} {f g : List ℕ} {x y : Json} (r q : List ℕ) → Value n f x → Value m g y → f ++ r ≡ g ++ q → Stops r → Stops q → (x ≡ y) × (r ≡ q)
-  same_value r q (null_value e h) (null_value d k) s a b = (h ∙ sym k, behind (codes "null") r q (along r q e d s))
-  same_value r q (true_value e h) (true_value d k) s a b = (h ∙ sym k, behind (codes "true") r q (along r q e d s))
-  same_value r q (false_value e h) (false_value d k) s a b = (h ∙ sym k, behind (codes "false") r q (along r q e d s))
+  same_value r q (null_value e h) (null_value d k) s a b = (h ∙ sym k, same_rest (codes "null") r q (along r q e d s))
+  same_value r q (true_value e h) (true_value d k) s a b = (h ∙ sym k, same_rest (codes "true") r q (along r q e d s))
+  same_value r q (false_value e h) (false_value d k) s a b = (h ∙ sym k, same_rest (codes "false") r q (along r q e d s))
   same_value r q (number_value m t h) (number_value n u k) s a b =
       let i = same_number r q t u a b s in
       (h ∙ ap (λ (z : Number). tree.Number z) i.0 ∙ sym k, i.1)
@@ -127,7 +127,7 @@ same_body b d x y h k e =
 no_mark : (b r : List ℕ) (x : Json) → Body b x → b ≡ 239 ∷ r → ⊥
 no_mark b r x h e = not_mark h.spaces r h.is_element (sym h.spelled ∙ e)
 
-pub one_tree : (b : List ℕ) (x y : Json) → Text b x → Text b y → x ≡ y
+pub one_tree : (b : List ℕ) (x y : Json) → JsonText b x → JsonText b y → x ≡ y
 one_tree b x y (inl h) (inl k) = same_body b b x y h k refl
 one_tree b x y (inl h) (inr (r, e, k)) = absurd (no_mark b (187 ∷ 191 ∷ r) x h e)
 one_tree b x y (inr (r, e, h)) (inl k) = absurd (no_mark b (187 ∷ 191 ∷ r) y k e)

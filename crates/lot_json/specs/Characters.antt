@@ -2,31 +2,32 @@
 -- is not a whole pair is refused is this project's own profile.
 use Rattle.std.specs.Prelude.{◌≡◌, ℕ, ◌+◌, ◌-◌, ◌*◌, ◌<◌, ◌≤◌, ◌≢◌, ◌⊎◌, List, [], ◌∷◌, ◌++◌, encode_utf8}
 use Rattle.std.specs.Char.{IsScalar}
+use Rattle.lot_json.specs.Bytes.{space, tab, line_feed, carriage_return, quote, backslash, slash, digit_0, digit_9, upper_a, upper_f, lower_a, lower_b, lower_f, lower_n, lower_r, lower_t, lower_u}
 
--- A character that stands for itself: any from U+0020 on but the quotation mark and the backslash.
+-- A character that may be unescaped: any from U+0020 on but the quotation mark and the backslash.
 abbrev pub IsUnescaped : ℕ → Type 0
-IsUnescaped c = IsScalar c × (32 ≤ c) × (c ≢ 34) × (c ≢ 92)
+IsUnescaped c = IsScalar c × (space ≤ c) × (c ≢ quote) × (c ≢ backslash)
 
--- The letter of a short escape, and the character that it stands for.
+-- The letter of a short escape, and its character.
 abbrev pub IsShortEscape : ℕ → ℕ → Type 0
 IsShortEscape e c =
-    ((e ≡ 34) × (c ≡ 34))  -- \" quotation mark
-    ⊎ (((e ≡ 92) × (c ≡ 92))  -- \\ backslash
-    ⊎ (((e ≡ 47) × (c ≡ 47))  -- \/ slash
-    ⊎ (((e ≡ 98) × (c ≡ 8))  -- \b backspace
-    ⊎ (((e ≡ 102) × (c ≡ 12))  -- \f form feed
-    ⊎ (((e ≡ 110) × (c ≡ 10))  -- \n line feed
-    ⊎ (((e ≡ 114) × (c ≡ 13))  -- \r carriage return
-    ⊎ ((e ≡ 116) × (c ≡ 9))))))))  -- \t tab
+    ((e ≡ quote) × (c ≡ quote))
+    ⊎ (((e ≡ backslash) × (c ≡ backslash))
+    ⊎ (((e ≡ slash) × (c ≡ slash))
+    ⊎ (((e ≡ lower_b) × (c ≡ 8))  -- backspace
+    ⊎ (((e ≡ lower_f) × (c ≡ 12))  -- form feed
+    ⊎ (((e ≡ lower_n) × (c ≡ line_feed))
+    ⊎ (((e ≡ lower_r) × (c ≡ carriage_return))
+    ⊎ ((e ≡ lower_t) × (c ≡ tab))))))))
 
 -- A hexadecimal digit of either case, and its value.
 abbrev pub IsHexDigit : ℕ → ℕ → Type 0
 IsHexDigit c v =
-    ((48 ≤ c) × (c ≤ 57) × (v ≡ c - 48))
-    ⊎ (((65 ≤ c) × (c ≤ 70) × (v ≡ c - 55))
-    ⊎ ((97 ≤ c) × (c ≤ 102) × (v ≡ c - 87)))
+    ((digit_0 ≤ c) × (c ≤ digit_9) × (v ≡ c - digit_0))
+    ⊎ (((upper_a ≤ c) × (c ≤ upper_f) × (v ≡ c - 55))
+    ⊎ ((lower_a ≤ c) × (c ≤ lower_f) × (v ≡ c - 87)))
 
--- Four hexadecimal digits, and the code unit that they stand for.
+-- Four hexadecimal digits, and their code unit.
 pub record FourDigits (text : List ℕ) (unit : ℕ) : Type 0 where
   pub digit : ℕ × ℕ × ℕ × ℕ
   pub worth : ℕ × ℕ × ℕ × ℕ
@@ -37,28 +38,69 @@ pub record FourDigits (text : List ℕ) (unit : ℕ) : Type 0 where
   pub spelled : text ≡ digit.0 ∷ digit.1 ∷ digit.2 ∷ digit.3 ∷ []
   pub value : unit ≡ worth.0 * 4096 + worth.1 * 256 + worth.2 * 16 + worth.3
 
+-- The first code unit of a surrogate pair is from 0xD800 on, and the second from 0xDC00 to 0xDFFF.
+abbrev pub first_high_surrogate : ℕ
+first_high_surrogate = 55296
+
+abbrev pub first_low_surrogate : ℕ
+first_low_surrogate = 56320
+
+abbrev pub first_after_surrogates : ℕ
+first_after_surrogates = 57344
+
 -- A code unit that is the first of a surrogate pair.
 abbrev pub IsHighSurrogate : ℕ → Type 0
-IsHighSurrogate u = (55296 ≤ u) × (u < 56320)
+IsHighSurrogate u = (first_high_surrogate ≤ u) × (u < first_low_surrogate)
 
 -- A code unit that is the second of a surrogate pair.
 abbrev pub IsLowSurrogate : ℕ → Type 0
-IsLowSurrogate u = (56320 ≤ u) × (u < 57344)
+IsLowSurrogate u = (first_low_surrogate ≤ u) × (u < first_after_surrogates)
+
+-- The code of the character of a surrogate pair.
+abbrev pub pair_code : ℕ → ℕ → ℕ
+pair_code high low = 65536 + (high - first_high_surrogate) * 1024 + (low - first_low_surrogate)
 
 -- The text of one escape \uXXXX, and its code unit.
 abbrev pub IsUnit : List ℕ → ℕ → Type 0
-IsUnit text unit = (digits : List ℕ) × FourDigits digits unit × (text ≡ 92 ∷ 117 ∷ digits)
+IsUnit text unit = (digits : List ℕ) × FourDigits digits unit × (text ≡ backslash ∷ lower_u ∷ digits)
 
 -- One character of a string as the text spells it: itself in UTF-8, a short escape, one escaped code unit that is no
 -- surrogate, or an escaped surrogate pair.
 pub data Spelling : List ℕ → ℕ → Type 0 where
-  plain : {b : List ℕ} {c : ℕ} → IsUnescaped c → b ≡ encode_utf8 c → Spelling b c
-  short : {b : List ℕ} {c : ℕ} (e : ℕ) → IsShortEscape e c → b ≡ 92 ∷ e ∷ [] → Spelling b c
-  unit : {b : List ℕ} {c : ℕ} → IsUnit b c → IsScalar c → Spelling b c
-  pair : {b : List ℕ} {c : ℕ} (first second : List ℕ) (high low : ℕ) → IsUnit first high → IsHighSurrogate high → IsUnit second low → IsLowSurrogate low
-      → b ≡ first ++ second → c ≡ 65536 + (high - 55296) * 1024 + (low - 56320) → Spelling b c
+  unescaped : {b : List ℕ} {c : ℕ}
+      → IsUnescaped c
+      → b ≡ encode_utf8 c
+      → Spelling b c
+  short : {b : List ℕ} {c : ℕ} (e : ℕ)
+      → IsShortEscape e c
+      → b ≡ backslash ∷ e ∷ []
+      → Spelling b c
+  unit : {b : List ℕ} {c : ℕ}
+      → IsUnit b c
+      → IsScalar c
+      → Spelling b c
+  pair : {b : List ℕ} {c : ℕ} (first second : List ℕ) (high low : ℕ)
+      → IsUnit first high
+      → IsHighSurrogate high
+      → IsUnit second low
+      → IsLowSurrogate low
+      → b ≡ first ++ second
+      → c ≡ pair_code high low
+      → Spelling b c
 
--- The text of a string behind its opening quotation mark, with the closing one, and the string in UTF-8.
+-- The text of a string after its opening quotation mark, with the closing one, and the string in UTF-8.
 pub data Characters : List ℕ → List ℕ → Type 0 where
-  close : {b s : List ℕ} → b ≡ 34 ∷ [] → s ≡ [] → Characters b s
-  more : {b s : List ℕ} (spelling r t : List ℕ) (c : ℕ) → Spelling spelling c → Characters r t → b ≡ spelling ++ r → s ≡ encode_utf8 c ++ t → Characters b s
+  close : {b s : List ℕ}
+      → b ≡ quote ∷ []
+      → s ≡ []
+      → Characters b s
+  more : {b s : List ℕ} (spelling r t : List ℕ) (c : ℕ)
+      → Spelling spelling c
+      → Characters r t
+      → b ≡ spelling ++ r
+      → s ≡ encode_utf8 c ++ t
+      → Characters b s
+
+-- The text x is the character c, followed by the characters that the bytes t spell.
+abbrev pub FollowedBy : ℕ → List ℕ → List ℕ → Type 0
+FollowedBy c t x = (y : List ℕ) × Characters t y × (x ≡ encode_utf8 c ++ y)

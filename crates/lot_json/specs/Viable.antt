@@ -1,22 +1,26 @@
--- How far a list of bytes can still become a JSON text.
+-- How far a list of bytes can become a JSON text.
 use Rattle.std.specs.Prelude.{◌≡◌, ℕ, ◌<◌, ◌≤◌, ◌^◌, ◌-◌, List, ◌++◌, length, take, min}
-use Rattle.lot_json.specs.declared.json.Json.{Json}
-use Rattle.lot_json.specs.Grammar.{Text}
+use Rattle.lot_json.specs.declared.tree.json.Json.{Json}
+use Rattle.lot_json.specs.Grammar.{JsonText}
 
 -- The bytes are a JSON text of the profile.
-abbrev pub IsText : List ℕ → Type 0
-IsText b = (x : Json) × Text b x
+abbrev pub IsJsonText : List ℕ → Type 0
+IsJsonText b = (x : Json) × JsonText b x
 
 -- Some continuation makes the bytes a JSON text.
 abbrev pub IsViable : List ℕ → Type 0
-IsViable b = (r : List ℕ) × IsText (b ++ r)
+IsViable b = (r : List ℕ) × IsJsonText (b ++ r)
 
--- k is the length of the longest front of the bytes that is viable.
-pub record IsFar (b : List ℕ) (k : ℕ) : Type 0 where
+-- k is the length of the longest prefix of the bytes that is viable.
+pub record IsViableLength (b : List ℕ) (k : ℕ) : Type 0 where
   pub within : k ≤ length b
   pub viable : IsViable (take k b)
   pub longest : (j : ℕ) → k < j → j ≤ length b → IsViable (take j b) → ⊥
 
--- An offset tells how far the bytes are viable. One that a u64 does not hold is told as its last value.
-abbrev pub TellsFar : List ℕ → ℕ → Type 0
-TellsFar b offset = (k : ℕ) × IsFar b k × (offset ≡ min k (2 ^ 64 - 1))
+-- The greatest offset that is reported: the last value of a u64.
+abbrev pub max_offset : ℕ
+max_offset = 2 ^ 64 - 1
+
+-- The offset is the length of the longest viable prefix of the bytes, or the greatest offset where that is less.
+abbrev pub IsSyntaxOffset : List ℕ → ℕ → Type 0
+IsSyntaxOffset b offset = (k : ℕ) × IsViableLength b k × (offset ≡ min k max_offset)

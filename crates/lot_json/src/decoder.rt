@@ -1,16 +1,19 @@
 ghost use Rattle.std.specs.Prelude.{◌≡◌, ◌++◌, [], List, ℕ, Err, IfOk, OnOk, IfErr};
 
-use crate::machine::{Advance, Machine};
+use crate::machine::Machine;
+use crate::progress::Progress;
 use crate::{Json, JsonRefusal};
 use lot_types::Memory;
 use std::alloc::Global;
 
-/// Reads one JSON text by RFC 8259 of this project's profile from its bytes, in pieces of any lengths: UTF-8, perhaps
-/// behind a byte order mark, with at most 128 arrays and objects open at once.
+/// Reads one JSON text by RFC 8259 from its bytes, in pieces of any lengths: UTF-8, perhaps after a byte order mark,
+/// with at most 128 arrays and objects open at once.
 #[derive(Drop)]
 pub struct Decoder {
     machine: Machine,
+    /// The number of bytes that were read, at most 2^64 - 1.
     taken: u64,
+    /// The first refusal.
     refusal: Option<JsonRefusal>,
 }
 
@@ -18,11 +21,11 @@ impl Decoder {
     ghost use Rattle.lot_json.specs.declared.refusal.JsonRefusal.{JsonRefusal};
     ghost use Rattle.lot_json.specs.Viable.{IsViable};
     ghost use Rattle.lot_json.specs.Refusal.{IsOnlyTree, IsRefused, IsNoText};
-    ghost use Rattle.lot_json.specs.Stands.{StandsFor, IsStopped, Reads};
+    ghost use Rattle.lot_json.specs.Fed.{WasFed, HasRefused, Reads};
 
-    /// The decoder that was fed nothing.
+    /// A decoder that has read nothing.
     pub fn new(alloc: Global) -> Result<Decoder, Memory>
-        ensures { IfOk result (λ decoder. StandsFor decoder []) }
+        ensures { IfOk result (λ decoder. WasFed decoder []) }
     {
         Ok(Decoder {
             machine: Machine::new(alloc),
@@ -31,14 +34,16 @@ impl Decoder {
         })
     }
 
-    /// Takes the next bytes, and refuses them at once where no bytes continue them to a text. What was refused once is
-    /// refused in the same way from then on.
+    /// Reads the next bytes. Refuses them as soon as no JSON text begins with all bytes up to here, with the offset of the
+    /// first byte that none continues with. After a refusal each call gives that same refusal.
     pub fn feed(&mut self, piece: &[u8]) -> Result<(), JsonRefusal>
-        ensures stands { (b : List ℕ) → StandsFor self.old b → StandsFor self.new (b ++ piece.now) }
-        ensures viable { OnOk result ((b : List ℕ) → StandsFor self.old b → IsViable (b ++ piece.now)) }
-        ensures refused { IfErr result (λ e. (b : List ℕ) → StandsFor self.old b → IsRefused e (b ++ piece.now)) }
-        ensures stops { IfErr result (IsStopped self.new) }
-        ensures stopped { (e : JsonRefusal) → IsStopped self.old e → result ≡ Err e }
+        ensures fed { (b : List ℕ) → WasFed self.old b → WasFed self.new (b ++ piece.now) }
+        ensures viable { OnOk result ((b : List ℕ) → WasFed self.old b
+            → IsViable (b ++ piece.now)) }
+        ensures refused { IfErr result (λ e. (b : List ℕ) → WasFed self.old b
+            → IsRefused e (b ++ piece.now)) }
+        ensures stops { IfErr result (HasRefused self.new) }
+        ensures stopped { (e : JsonRefusal) → HasRefused self.old e → result ≡ Err e }
     {
         if let Some(refusal) = self.refusal {
             return Err(refusal);
@@ -52,11 +57,12 @@ impl Decoder {
         }
     }
 
-    /// The tree of the text that was fed.
+    /// The tree of the JSON text that was read. Refuses bytes that are not a whole JSON text, with the offset up to which
+    /// they can become one.
     pub fn finish(self) -> Result<Json, JsonRefusal>
-        ensures only { IfOk result (λ x. (b : List ℕ) → StandsFor self b → IsOnlyTree b x) }
-        ensures refused { IfErr result (λ e. (b : List ℕ) → StandsFor self b → IsNoText e b) }
-        ensures stopped { (e : JsonRefusal) → IsStopped self e → result ≡ Err e }
+        ensures only { IfOk result (λ x. (b : List ℕ) → WasFed self b → IsOnlyTree b x) }
+        ensures refused { IfErr result (λ e. (b : List ℕ) → WasFed self b → IsNoText e b) }
+        ensures stopped { (e : JsonRefusal) → HasRefused self e → result ≡ Err e }
     {
         let Decoder {
             machine,
@@ -72,21 +78,25 @@ impl Decoder {
         }
     }
 
-    /// Takes the next bytes of what was not refused yet.
+    /// Reads the next bytes, after others that were not refused.
     fn read(&mut self, piece: &[u8]) -> Result<(), JsonRefusal>
-        ensures reads { OnOk result ((b : List ℕ) → Reads self.old.machine self.old.taken b → Reads self.new.machine self.new.taken (b ++ piece.now)) }
-        ensures refused { IfErr result (λ e. (b : List ℕ) → Reads self.old.machine self.old.taken b → IsRefused e (b ++ piece.now)) }
+        ensures reads { OnOk result ((b : List ℕ) → Reads self.old.machine self.old.taken b
+            → Reads self.new.machine self.new.taken (b ++ piece.now)) }
+        ensures refused { IfErr result (λ e. (b : List ℕ) → Reads self.old.machine self.old.taken b
+            → IsRefused e (b ++ piece.now)) }
         ensures same { self.new.refusal ≡ self.old.refusal }
     {
         let mut at = 0;
         while at < piece.len() {
-            let advance = self.machine.advance(&piece[at..])?;
-            match advance {
-                Advance::Goes(read) => {
+            let progress = self.machine.advance(&piece[at..])?;
+            match progress {
+                Progress::Continues(read) => {
                     self.taken = self.taken.saturating_add(read as u64);
                     at += read;
                 }
-                Advance::Stuck(read) => {
+                // White space may always follow.
+                Progress::Ends(_) => unreachable!(),
+                Progress::Rejects(read) => {
                     return Err(JsonRefusal::Syntax(self.taken.saturating_add(read as u64)));
                 }
             }

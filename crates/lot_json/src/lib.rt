@@ -1,32 +1,29 @@
-//! JSON texts by RFC 8259, in this project's profile: read from pieces of any lengths into a tree, with the exact
-//! place of a fault.
+//! JSON texts by RFC 8259: read from pieces of any lengths into a tree, with the exact offset of a fault.
+//!
+//! ```text
+//! let tree = parse(alloc, bytes)?;                 // all bytes at once
+//!
+//! let mut decoder = Decoder::new(alloc)?;          // or piece by piece
+//! decoder.feed(piece)?;
+//! let tree = decoder.finish()?;
+//! ```
+//!
+//! The profile is this project's own: UTF-8, perhaps after a byte order mark, with at most 128 arrays and objects open
+//! at once, and no escape of a surrogate that is not a whole pair. A number is kept in millionths.
 #![tactic(auto)]
 
-mod byte_sequence;
-mod code_unit;
 mod decoder;
-mod front;
-mod json;
 mod laws;
 mod machine;
-mod number;
-mod number_token;
-mod one_tree;
 mod parser;
-mod part;
-mod plain;
-mod pointer;
+mod progress;
 mod refusal;
-mod step;
-mod surrogate;
-mod text_token;
 pub mod token;
+mod tokens;
+mod tree;
 
 pub use decoder::Decoder;
-pub use json::{Json, JsonItems, JsonMembers};
-pub use laws::{a_front_is_viable, a_text_is_viable};
-pub use number::Number;
-pub use one_tree::has_one_tree;
+pub use laws::{a_prefix_is_viable, a_text_is_viable, has_one_tree};
 pub use parser::parse;
-pub use pointer::{Pointer, Step};
 pub use refusal::JsonRefusal;
+pub use tree::{Json, JsonItems, JsonMembers, Number, Pointer, Step};

@@ -1,25 +1,20 @@
-//! The machine that reads a JSON text, some bytes at a time.
+//! The machine that reads a JSON text, some bytes at a time, with no recursion.
 
-mod advance;
 mod array;
-mod finish;
-mod mark;
+mod byte_order_mark;
+mod container;
+mod literal;
+mod machine;
 mod member;
 mod mode;
 mod number;
-mod number_so_far;
 mod object;
-mod opened;
-mod space;
-mod state;
-mod text;
+mod string;
 mod value;
-mod word;
+mod white_space;
 
-pub(crate) use advance::Advance;
+pub(crate) use container::Container;
+pub(crate) use literal::Literal;
+pub(crate) use machine::Machine;
 pub(crate) use mode::Mode;
-pub(crate) use number_so_far::NumberSoFar;
-pub(crate) use opened::Open;
-pub(crate) use space::is_space;
-pub(crate) use state::Machine;
-pub(crate) use word::Word;
+pub(crate) use white_space::is_white_space;

@@ -7,9 +7,9 @@ use thiserror::Error;
 /// Why bytes were not read into a tree.
 #[derive(Clone, Copy, Debug, PartialEq, Eq, Error)]
 pub enum JsonRefusal {
-    /// They are no JSON text of the profile. The offset is the length in bytes of their longest front that some bytes
-    /// continue to such a text: of all of them where only more are wanted. From 2^64 - 1 on it is that number.
-    #[error("no JSON text goes on so at byte {0}")]
+    /// The bytes are no JSON text of the profile. The offset is the length in bytes of their longest prefix that a JSON
+    /// text begins with: the length of all bytes where the text only is not complete, and at most 2^64 - 1.
+    #[error("no JSON text continues with byte {0}")]
     Syntax(u64),
     /// There was no memory for the tree.
     #[error("out of memory")]

@@ -1,18 +1,18 @@
-//! The tokens of a JSON text by themselves.
+//! Numbers outside of a JSON text.
 
 ghost use Rattle.std.specs.Prelude.{◌≡◌, IfSome, IfNone};
-ghost use Rattle.lot_json.specs.declared.number.Number.{Number};
-ghost use Rattle.lot_json.specs.Token.{Token};
+ghost use Rattle.lot_json.specs.declared.tree.number.Number.{Number};
+ghost use Rattle.lot_json.specs.NumberToken.{IsNumberToken};
 
-use crate::number::Number;
-use crate::number_token::NumberToken;
+use crate::Number;
+use crate::tokens::NumberToken;
 
-/// The number that these bytes spell: a JSON number token, in millionths by its exact value. `None` exactly where they
-/// are no number token. It takes no memory, for a token of any length.
+/// The number of a JSON number token by RFC 8259, section 6, in millionths by its exact value. `None` where the bytes are
+/// no number token. Takes no memory, for a token of any length.
 pub fn number(bytes: &[u8]) -> Option<Number>
-    ensures token { IfSome result (λ n. Token bytes.now n) }
-    ensures only { IfSome result (λ n. (m : Number) → Token bytes.now m → m ≡ n) }
-    ensures none { IfNone result ((m : Number) → Token bytes.now m → ⊥) }
+    ensures token { IfSome result (λ n. IsNumberToken bytes.now n) }
+    ensures only { IfSome result (λ n. (m : Number) → IsNumberToken bytes.now m → m ≡ n) }
+    ensures none { IfNone result ((m : Number) → IsNumberToken bytes.now m → ⊥) }
 {
     let (first, rest) = bytes.split_first()?;
     let mut token = NumberToken::new();

@@ -1,3 +1,4 @@
+pub mod Curves
 pub mod EndZeros
 pub mod LastDigits
 pub mod Nearest

@@ -1,2 +1,3 @@
-pub mod Round
 pub mod Digits
+pub mod Easing
+pub mod Round

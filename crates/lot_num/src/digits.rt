@@ -1,22 +1,21 @@
-//! A number of millionths as text.
+//! Numbers of millionths as text.
 
 ghost use Rattle.std.specs.Prelude.{◌≡◌, unsigned_abs, ◌+◌, ◌++◌, ◌≤◌, ◌<◌, length, take, ◌^◌};
 ghost use Rattle.std.specs.Fmt.{decimal};
 ghost use Rattle.lot_num.specs.Digits.{printed, sign_of, decimals_of, last_digits, without_end_zeros};
-ghost use Rattle.lot_num.specs.Round.{top};
+ghost use Rattle.lot_num.specs.Round.{max_millionths};
 
 use crate::round::rounded_to;
 
-/// Writes `v` millionths at the front of `out`, rounded to `digits` decimals as `rnd_div` rounds,
-/// and answers the length of the text.
+/// Writes `v` millionths as text into the first bytes of `out`, rounded to `digits` decimals as
+/// [`rnd_div`](crate::rnd_div) rounds, and returns the length of the text. The bytes after the text are not specified.
 ///
-/// `v` is in range, and `digits` is at most 6. The text is a `-` where the rounded number is below
-/// 0, the whole part, and, where the decimals are not all 0, a point and the decimals without zeros
-/// at the end: `-11_038_499` with 3 digits is `-11.038`, and `-499` is `0`. What `out` holds behind
-/// the text is not specified. It never refuses. The rule is this project's own.
+/// `v` is in range, and `digits` is at most 6. The text is a `-` where the rounded number is below 0, the whole part,
+/// and, where the decimals are not all 0, a point and the decimals without zeros at the end: `-11_038_499` with 3 digits
+/// is `-11.038`, and `-499` is `0`.
 pub fn print_fx(v: i64, digits: u32, out: &mut [u8; 24]) -> usize
     requires digits_small { digits ≤ 6 }
-    requires in_range { unsigned_abs v ≤ top }
+    requires in_range { unsigned_abs v ≤ max_millionths }
     ensures text { take result out.new ≡ printed v digits }
     ensures length { result ≡ length (printed v digits) }
     ensures room { result ≤ 24 }
@@ -29,8 +28,7 @@ pub fn print_fx(v: i64, digits: u32, out: &mut [u8; 24]) -> usize
     put_decimals(size % unit, digits as usize, out, at)
 }
 
-// The pieces of the text. Each call writes one behind the first `at` bytes, and answers where it
-// ends.
+// The parts of the text. Each call writes one after the first `at` bytes, and returns where it ends.
 
 fn put_sign(n: i64, out: &mut [u8]) -> usize
     requires { 0 < length out.old }
@@ -65,8 +63,7 @@ fn put_decimals(part: u64, places: usize, out: &mut [u8], at: usize) -> usize
     if kept == 0 { at } else { first + kept }
 }
 
-// Fills `out` with the last digits of `n`, and answers how many are left without the zeros at
-// the end.
+// Fills `out` with the last digits of `n`, and returns how many there are without the zeros at the end.
 fn put_trimmed(n: u64, out: &mut [u8]) -> usize
     ensures text { take result out.new ≡ without_end_zeros (last_digits (length out.old) n) }
     ensures within { result ≤ length out.old }

@@ -1,12 +1,14 @@
-//! Exact arithmetic on fixed-point numbers.
+//! Exact arithmetic on numbers of millionths.
 //!
-//! A quantity is a whole number of millionths: of a pixel, of a frame, of a degree, of a per cent.
-//! `1_500_000` is one and a half. A quantity in range is from -10^13 to 10^13, ten million either
-//! way. No call refuses and none takes memory. The rules are this project's own.
+//! A number is a whole number of millionths: of a pixel, a frame, a degree, a per cent, or of one. `1_500_000` is one
+//! and a half. A number in range is from -10^13 to 10^13, ten million either way. No call refuses and none takes memory.
+//! The rules are this project's own.
 #![tactic(auto)]
 
 mod digits;
+mod easing;
 mod round;
 
 pub use digits::print_fx;
+pub use easing::{Grid, Handle, ease, ease_linear};
 pub use round::{clamp_fx, rnd_div};

@@ -1,6 +1,6 @@
 pub mod ReadLoop
 pub mod WriteLoop
-pub mod Answering
-pub mod Ending
+pub mod Judging
 pub mod Running
-pub mod Words
+pub mod Requests
+pub mod FaultlessTables

@@ -6,14 +6,14 @@ use Rattle.lot_types.specs.declared.matrix.Matrix.{Matrix}
 use Rattle.lot_play.specs.declared.document.solid.SolidLayer.{SolidLayer}
 use Rattle.lot_play.specs.declared.document.Document.{Document}
 
--- One layer of a finished frame: a rectangle of w by h in one colour, and the map that places it.
+-- One layer of a finished frame: a rectangle of w by h in one colour, and its matrix.
 pub record Node : Type 0 where
   pub matrix : Matrix
   pub rgb : Rgb
   pub w : ℤ
   pub h : ℤ
 
--- The map that moves every point by the same way.
+-- The matrix of a translation.
 abbrev pub move_by : Point → Matrix
 move_by p = record { a = pos (10 ^ 6); b = pos 0; c = pos 0; d = pos (10 ^ 6); e = p.x; f = p.y }
 
@@ -24,7 +24,7 @@ is_visible t layer = not layer.hidden && int_le layer.ip t && int_lt t layer.op
 abbrev pub node : SolidLayer → Node
 node layer = record { matrix = move_by layer.position; rgb = layer.rgb; w = layer.w; h = layer.h }
 
--- The visible layers from the last to the first, so that the first lies on top.
+-- The visible layers from the last to the first, so that the first is on top.
 abbrev pub nodes_of : ℤ → List SolidLayer → List Node
 nodes_of t layers = map node (filter (is_visible t) (reverse layers))
 

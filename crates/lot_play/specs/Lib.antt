@@ -1,8 +1,13 @@
-pub mod Outside
-pub mod Entries
+pub mod Count
+pub mod Folder
+pub mod Sink
+pub mod RealFolder
+pub mod RealSink
+pub mod Status
 pub mod Table
 pub mod Frame
 pub mod Svg
+pub mod Arguments
 pub mod Output
-pub mod Command
-pub mod Judged
+pub mod Judge
+pub mod Run

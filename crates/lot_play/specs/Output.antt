@@ -1,116 +1,151 @@
--- What the program answers: which bytes and which status, for every list of words and every content of the folder. The
--- words, the lines and the statuses are this project's own.
-use Rattle.std.specs.Prelude.{◌≡◌, ℕ, ℤ, ◌≤◌, ◌<◌, ◌&&◌, int_le, int_lt, List, [], ◌∷◌, ◌++◌, length, Option, None, Some, codes, if◌then◌else◌}
+-- The output of the program: which bytes and which status, for all arguments and all contents. The lines and the order
+-- of judgement are this project's own.
+use Rattle.std.specs.Prelude.{◌≡◌, ℕ, ℤ, ◌+◌, ◌≤◌, ◌<◌, ◌&&◌, int_le, int_lt, List, [], ◌∷◌, ◌++◌, length, Option, None, Some, codes, if◌then◌else◌}
 use Rattle.std.specs.Fmt.{decimal}
+use Rattle.std.specs.List.{All}
 use Rattle.lot_types.specs.declared.fault.Fault.{Fault}
 use Rattle.lot_types.specs.FaultName.{fault_name}
-use Rattle.lot_json.specs.declared.number.Number.{Number}
-use Rattle.lot_json.specs.declared.number.Number.TheVariants.{Micro, Beyond}
-use Rattle.lot_json.specs.declared.json.Json.{Json}
-use Rattle.lot_json.specs.Token.{Token}
-use Rattle.lot_json.specs.Grammar.{Text}
-use Rattle.lot_json.specs.Viable.{IsText, TellsFar}
+use Rattle.lot_json.specs.declared.tree.number.Number.{Number}
+use Rattle.lot_json.specs.declared.tree.number.Number.TheVariants.{Micro, Beyond}
+use Rattle.lot_json.specs.declared.tree.json.Json.{Json}
+use Rattle.lot_json.specs.Grammar.{JsonText}
+use Rattle.lot_json.specs.Viable.{IsJsonText, IsSyntaxOffset}
+use Rattle.lot_read.specs.Outcome.{first}
 use Rattle.lot_play.specs.declared.document.canvas.Canvas.{Canvas}
 use Rattle.lot_play.specs.declared.document.Document.{Document}
-use Rattle.lot_play.specs.declared.command.Task.{Task}
-use Rattle.lot_play.specs.declared.command.Task.TheVariants.{Check, Frame}
+use Rattle.lot_play.specs.declared.task.Task.{Task}
+use Rattle.lot_play.specs.declared.task.Task.TheVariants.{Check, Frame}
 use Rattle.lot_play.specs.declared.status.Status.{Status}
-use Rattle.lot_play.specs.declared.status.Status.TheVariants.{Done, Refused, Usage, ReadFault, WriteFault, Memory, TooLong}
+use Rattle.lot_play.specs.declared.status.Status.TheVariants.{Done, Refused, Usage, TooLong}
 use Rattle.lot_play.specs.declared.answer.Answer.{Answer}
-use Rattle.lot_play.specs.Outside.{Told}
-use Rattle.lot_read.specs.Outcome.{first}
+use Rattle.lot_play.specs.Arguments.{Arguments, AskFor, AskForNothing}
 use Rattle.lot_play.specs.Table.{document}
 use Rattle.lot_play.specs.Frame.{frame_of}
 use Rattle.lot_play.specs.Svg.{svg_text}
 
--- The words ask for a task on a named document: `check DOC`, or `frame DOC TIME`, where TIME is a number token.
-abbrev pub Asks : List (List ℕ) → List ℕ → Task → Type 0
-Asks words name Check = words ≡ codes "check" ∷ name ∷ []
-Asks words name (Frame time) = (token : List ℕ) × (words ≡ codes "frame" ∷ name ∷ token ∷ []) × Token token time
+-- The greatest number of bytes of a document.
+abbrev pub max_document_bytes : ℕ
+max_document_bytes = 16777216
 
--- The words ask for nothing.
-abbrev pub IsMisused : List (List ℕ) → Type 0
-IsMisused words = (name : List ℕ) (task : Task) → Asks words name task → ⊥
-
--- The most bytes that a document may have.
-abbrev pub most : ℕ
-most = 16777216
-
--- The time, where the animation runs at it.
+-- The time, where the animation runs at it: from its first frame to before its end.
 abbrev pub moment : Canvas → Number → Option ℤ
 moment c (Micro t) = if int_le c.ip t && int_lt t c.op then Some t else None
 moment c Beyond = None
 
--- The bytes and the status of an answer.
-abbrev pub Reply : Type 0
-Reply = List ℕ × Status
+-- The SVG of a document at a moment; nothing where the animation does not run.
+abbrev pub moment_answer : Document → Option ℤ → Answer
+moment_answer d None = record { bytes = []; status = Usage }
+moment_answer d (Some t) = record { bytes = svg_text d.canvas (frame_of d t); status = Done }
 
--- A value with the bytes and the status of a reply.
-abbrev pub IsReply : Reply → Answer → Type 0
-IsReply reply a = (a.bytes ≡ reply.0) × (a.status ≡ reply.1)
+-- The answer to a task on an accepted document.
+unfoldable pub document_answer : Document → Task → Answer
+document_answer d Check = record { bytes = codes "ok\n"; status = Done }
+document_answer d (Frame time) = moment_answer d (moment d.canvas time)
 
--- The SVG of a document at a moment. Nothing, where it does not run.
-abbrev pub moment_reply : Document → Option ℤ → Reply
-moment_reply d None = ([], Usage)
-moment_reply d (Some t) = (svg_text d.canvas (frame_of d t), Done)
-
--- What a task gives on an accepted document.
-unfoldable pub task_reply : Document → Task → Reply
-task_reply d Check = (codes "ok\n", Done)
-task_reply d (Frame time) = moment_reply d (moment d.canvas time)
-
--- The line for the first fault of a document: its name and its pointer.
+-- The line for the first fault of a document: the fault's name, and its JSON pointer.
 unfoldable pub fault_line : Fault → List ℕ
 fault_line f = codes "fault " ++ fault_name f.code ++ codes " " ++ f.pointer ++ codes "\n"
 
--- The line for bytes that are no JSON text, with how far they are viable.
+abbrev pub fault_answer : Fault → Answer
+fault_answer f = record { bytes = fault_line f; status = Refused }
+
+-- The line for bytes that are no JSON text, with the length of their longest prefix that can become one.
 unfoldable pub syntax_line : ℕ → List ℕ
 syntax_line offset = codes "syntax " ++ decimal offset ++ codes "\n"
 
--- The answer on a content: it is too long, or no JSON text, or has a fault, of which the first is told, or is accepted.
-pub data Answers (content : List ℕ) (task : Task) : List ℕ → Status → Type 0 where
-  on_too_long : {bytes : List ℕ} {status : Status} → most < length content → bytes ≡ [] → status ≡ TooLong → Answers content task bytes status
-  on_no_text : {bytes : List ℕ} {status : Status} (k : ℕ) → length content ≤ most → (IsText content → ⊥) → TellsFar content k → bytes ≡ syntax_line k → status ≡ Refused → Answers content task bytes status
-  on_fault : {bytes : List ℕ} {status : Status} (j : Json) (f : Fault) → length content ≤ most → Text content j → first (document j).faults ≡ Some f → bytes ≡ fault_line f → status ≡ Refused → Answers content task bytes status
-  on_document : {bytes : List ℕ} {status : Status} (j : Json) (d : Document) → length content ≤ most → Text content j → (document j).faults ≡ [] → (document j).value ≡ Some d → (bytes, status) ≡ task_reply d task → Answers content task bytes status
+abbrev pub syntax_answer : ℕ → Answer
+syntax_answer offset = record { bytes = syntax_line offset; status = Refused }
 
--- The output of the program on its words, where the named content is told.
-pub data Output (told : List ℕ → Option (List ℕ)) (words : List (List ℕ)) : List ℕ → Status → Type 0 where
-  on_misuse : {bytes : List ℕ} {status : Status} → IsMisused words → bytes ≡ [] → status ≡ Usage → Output told words bytes status
-  on_request : {bytes : List ℕ} {status : Status} (name : List ℕ) (task : Task) (content : List ℕ) → Asks words name task → Told (told name) content → Answers content task bytes status → Output told words bytes status
+-- The answer to a task on a content: it is no JSON text, or has a fault, of which the first is reported, or is an
+-- accepted document.
+pub data IsAnswerTo (content : List ℕ) (task : Task) (answer : Answer) : Type 0 where
+  on_no_text : (offset : ℕ)
+      → (IsJsonText content → ⊥)
+      → IsSyntaxOffset content offset
+      → answer ≡ syntax_answer offset
+      → IsAnswerTo content task answer
+  on_fault : (j : Json) (f : Fault)
+      → JsonText content j
+      → first (document j).faults ≡ Some f
+      → answer ≡ fault_answer f
+      → IsAnswerTo content task answer
+  on_document : (j : Json) (d : Document)
+      → JsonText content j
+      → (document j).faults ≡ []
+      → (document j).value ≡ Some d
+      → answer ≡ document_answer d task
+      → IsAnswerTo content task answer
 
--- The content that the words name is told.
-abbrev pub IsTold : (List ℕ → Option (List ℕ)) → List (List ℕ) → Type 0
-IsTold told words = (name : List ℕ) (task : Task) → Asks words name task → (content : List ℕ) × Told (told name) content
+-- What a run answers, and the contents that it reads whole, in order.
+pub record Outcome : Type 0 where
+  pub answer : Answer
+  pub read : List (List ℕ)
 
--- A status that ends a run whose output was written whole.
-abbrev pub IsWhole : Status → Type 0
-IsWhole Done = Unit {0}
-IsWhole Refused = Unit {0}
-IsWhole Usage = Unit {0}
-IsWhole TooLong = Unit {0}
-IsWhole _ = ⊥
+-- The task needs a content more than these.
+abbrev pub NeedsMore : Task → List (List ℕ) → Type 0
+NeedsMore Check [] = Unit {0}
+NeedsMore Check (document ∷ more) = ⊥
+NeedsMore (Frame time) [] = Unit {0}
+NeedsMore (Frame time) (document ∷ more) = ⊥
 
--- A status that ends a run which stopped short.
-abbrev pub IsShort : Status → Type 0
-IsShort ReadFault = Unit {0}
-IsShort WriteFault = Unit {0}
-IsShort Memory = Unit {0}
-IsShort _ = ⊥
+-- The task ends when it has read these contents, and no sooner, with this answer.
+abbrev pub EndsWith : Task → List (List ℕ) → Answer → Type 0
+EndsWith Check [] answer = ⊥
+EndsWith Check (document ∷ []) answer = IsAnswerTo document Check answer
+EndsWith Check (document ∷ next ∷ more) answer = ⊥
+EndsWith (Frame time) [] answer = ⊥
+EndsWith (Frame time) (document ∷ []) answer = IsAnswerTo document (Frame time) answer
+EndsWith (Frame time) (document ∷ next ∷ more) answer = ⊥
 
--- A status with which nothing is written.
-abbrev pub IsSilent : Status → Type 0
-IsSilent Usage = Unit {0}
-IsSilent ReadFault = Unit {0}
-IsSilent TooLong = Unit {0}
-IsSilent _ = ⊥
+-- The outcome of a task that has read some contents and has some names still to read: it ends; or the content of the
+-- next name is too long; or it reads that content and continues.
+pub data Performs (content_of : List ℕ → Option (List ℕ)) (task : Task)
+    : List (List ℕ) → List (List ℕ) → Outcome → Type 0 where
+  on_end : {read names : List (List ℕ)} {o : Outcome}
+      → EndsWith task read o.answer
+      → o.read ≡ read
+      → Performs content_of task read names o
+  on_too_long : {read names : List (List ℕ)} {o : Outcome} (name content : List ℕ) (others : List (List ℕ))
+      → NeedsMore task read
+      → names ≡ name ∷ others
+      → content_of name ≡ Some content
+      → max_document_bytes < length content
+      → o ≡ record { answer = record { bytes = []; status = TooLong }; read = read }
+      → Performs content_of task read names o
+  on_content : {read names : List (List ℕ)} {o : Outcome} (name content : List ℕ) (others : List (List ℕ))
+      → NeedsMore task read
+      → names ≡ name ∷ others
+      → content_of name ≡ Some content
+      → length content ≤ max_document_bytes
+      → Performs content_of task (read ++ content ∷ []) others o
+      → Performs content_of task read names o
 
--- The number of a status, with which the program ends.
-abbrev pub status_number : Status → ℕ
-status_number Done = 0
-status_number Refused = 1
-status_number Usage = 2
-status_number ReadFault = 3
-status_number WriteFault = 4
-status_number Memory = 5
-status_number TooLong = 6
+-- The outcome of a run on its arguments, where the contents that they name are known.
+pub data Output (content_of : List ℕ → Option (List ℕ)) (arguments : Arguments) (o : Outcome) : Type 0 where
+  on_no_command : AskForNothing arguments
+      → o ≡ record { answer = record { bytes = []; status = Usage }; read = [] }
+      → Output content_of arguments o
+  on_command : (names : List (List ℕ)) (task : Task)
+      → AskFor arguments names task
+      → Performs content_of task [] names o
+      → Output content_of arguments o
+
+-- The content of a name is known.
+abbrev pub IsKnown : (List ℕ → Option (List ℕ)) → List ℕ → Type 0
+IsKnown content_of name = (content : List ℕ) × (content_of name ≡ Some content)
+
+-- The contents that the arguments name are known.
+abbrev pub AreKnown : (List ℕ → Option (List ℕ)) → Arguments → Type 0
+AreKnown content_of arguments =
+    (names : List (List ℕ)) (task : Task) → AskFor arguments names task
+    → All (IsKnown content_of) names
+
+-- The names that the arguments ask for are served.
+abbrev pub AreServed : (List ℕ → Type 0) → Arguments → Type 0
+AreServed serves arguments =
+    (names : List (List ℕ)) (task : Task) → AskFor arguments names task → All serves names
+
+-- How many bytes some contents have together.
+abbrev pub total_length : List (List ℕ) → ℕ
+total_length [] = 0
+total_length (content ∷ more) = length content + total_length more

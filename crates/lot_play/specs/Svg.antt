@@ -8,7 +8,7 @@ use Rattle.lot_num.specs.Digits.{printed}
 use Rattle.lot_play.specs.declared.document.canvas.Canvas.{Canvas}
 use Rattle.lot_play.specs.Frame.{Node}
 
--- What stands in front of the value of an attribute.
+-- What comes before the value of an attribute.
 unfoldable pub attribute_start : List ℕ → List ℕ
 attribute_start name = codes " " ++ name ++ codes "=\""
 
@@ -39,11 +39,11 @@ empty_tag name attributes = tag_start name ++ attributes ++ empty_tag_end
 unfoldable pub close_tag : List ℕ → List ℕ
 close_tag name = codes "</" ++ name ++ codes ">\n"
 
--- A length in pixels, with at most three digits behind the point.
+-- A length in pixels, with at most three digits after the point.
 unfoldable pub length_text : ℤ → List ℕ
 length_text v = printed v 3
 
--- An entry of a matrix, with at most six digits behind the point.
+-- An entry of a matrix, with at most six digits after the point.
 unfoldable pub entry_text : ℤ → List ℕ
 entry_text v = printed v 6
 
@@ -54,28 +54,32 @@ hex_text n = if nat_lt n 10 then 48 + n else 87 + n
 unfoldable pub byte_text : ℕ → List ℕ
 byte_text n = hex_text (n / 16) ∷ hex_text (n % 16) ∷ []
 
-unfoldable pub colour_text : Rgb → List ℕ
-colour_text c = codes "#" ++ byte_text c.r ++ byte_text c.g ++ byte_text c.b
+unfoldable pub color_text : Rgb → List ℕ
+color_text c = codes "#" ++ byte_text c.r ++ byte_text c.g ++ byte_text c.b
 
--- The map that leaves every point where it is.
+-- The identity, which moves no point.
 abbrev pub is_identity : Matrix → Bool
-is_identity m = int_eq m.a (pos (10 ^ 6)) && int_eq m.b (pos 0) && int_eq m.c (pos 0) && int_eq m.d (pos (10 ^ 6)) && int_eq m.e (pos 0) && int_eq m.f (pos 0)
+is_identity m =
+    int_eq m.a (pos (10 ^ 6)) && int_eq m.b (pos 0) && int_eq m.c (pos 0) && int_eq m.d (pos (10 ^ 6))
+    && int_eq m.e (pos 0) && int_eq m.f (pos 0)
 
 abbrev pub entry_pair_text : ℤ → ℤ → List ℕ
 entry_pair_text x y = entry_text x ++ codes " " ++ entry_text y
 
 unfoldable pub matrix_text : Matrix → List ℕ
 matrix_text m =
-    codes "matrix(" ++ entry_pair_text m.a m.b ++ codes " " ++ entry_pair_text m.c m.d ++ codes " " ++ entry_pair_text m.e m.f ++ codes ")"
+    codes "matrix(" ++ entry_pair_text m.a m.b ++ codes " " ++ entry_pair_text m.c m.d ++ codes " "
+    ++ entry_pair_text m.e m.f ++ codes ")"
 
--- A point of path data, behind the letter of its command.
+-- A point of path data, after the letter of its command.
 abbrev pub point_text : ℤ → ℤ → List ℕ
 point_text x y = length_text x ++ codes " " ++ length_text y
 
 -- The closed contour (0, 0), (w, 0), (w, h), (0, h). The last side is the one that closes it.
 unfoldable pub rectangle_text : ℤ → ℤ → List ℕ
 rectangle_text w h =
-    codes "M" ++ point_text (pos 0) (pos 0) ++ codes "L" ++ point_text w (pos 0) ++ codes "L" ++ point_text w h ++ codes "L" ++ point_text (pos 0) h ++ codes "Z"
+    codes "M" ++ point_text (pos 0) (pos 0) ++ codes "L" ++ point_text w (pos 0) ++ codes "L" ++ point_text w h
+    ++ codes "L" ++ point_text (pos 0) h ++ codes "Z"
 
 -- The transform of a layer, left out where it is the identity.
 unfoldable pub transform_text : Matrix → List ℕ
@@ -83,7 +87,9 @@ transform_text m = if is_identity m then [] else attribute (codes "transform") (
 
 -- A rectangle that is filled with a colour.
 unfoldable pub fill_text : Node → List ℕ
-fill_text n = empty_tag (codes "path") (attribute (codes "fill") (colour_text n.rgb) ++ attribute (codes "d") (rectangle_text n.w n.h))
+fill_text n =
+    empty_tag (codes "path")
+    (attribute (codes "fill") (color_text n.rgb) ++ attribute (codes "d") (rectangle_text n.w n.h))
 
 -- A layer: a group with its transform, and its fill in it.
 unfoldable pub node_text : Node → List ℕ
@@ -94,7 +100,9 @@ view_box_text c = codes "0 0 " ++ length_text c.w ++ codes " " ++ length_text c.
 
 -- The size of an animation, and the part of the plane that it shows.
 unfoldable pub canvas_text : Canvas → List ℕ
-canvas_text c = attribute (codes "width") (length_text c.w) ++ attribute (codes "height") (length_text c.h) ++ attribute (codes "viewBox") (view_box_text c)
+canvas_text c =
+    attribute (codes "width") (length_text c.w) ++ attribute (codes "height") (length_text c.h)
+    ++ attribute (codes "viewBox") (view_box_text c)
 
 -- The namespace and the version of the standard.
 unfoldable pub namespace_text : List ℕ
@@ -107,6 +115,6 @@ version_text = attribute (codes "version") (codes "1.1")
 unfoldable pub head_text : Canvas → List ℕ
 head_text c = open_tag (codes "svg") (namespace_text ++ version_text ++ canvas_text c)
 
--- The whole text: the root element round the layers.
+-- The whole text: the root element with the layers in it.
 abbrev pub svg_text : Canvas → List Node → List ℕ
 svg_text c nodes = head_text c ++ flat_map node_text nodes ++ close_tag (codes "svg")

@@ -1,22 +1,25 @@
 -- What a document says: the tables of the members of the whole animation, of its layers and of their transforms. The
--- members are those of the Lottie Specification 1.0; which of them are read, and in which order their faults are told,
--- is this project's own.
+-- members are those of the Lottie Specification 1.0; which of them are read, and the order of their faults, is this
+-- project's own.
 use Rattle.std.specs.Prelude.{◌==◌, ℕ, ℤ, pos, ◌*◌, ◌+◌, ◌-◌, ◌%◌, ◌^◌, ◌&&◌, false, nat_le, int_lt, unsigned_abs, List, [], ◌∷◌, Option, Some, None, codes, if◌then◌else◌}
 use Rattle.std.specs.Ordering.{int_eq}
 use Rattle.lot_types.specs.declared.fault.FaultCode.TheVariants.{Kind, Value, Order, Unsupported}
 use Rattle.lot_types.specs.declared.point.Point.{Point}
 use Rattle.lot_types.specs.declared.rgb.Rgb.{Rgb}
-use Rattle.lot_types.specs.declared.prop.Prop.TheVariants.{Own}
-use Rattle.lot_types.specs.declared.prop.Track.TheVariants.{Still}
+use Rattle.lot_types.specs.declared.prop.Prop.TheVariants.{Own, Slot}
+use Rattle.lot_types.specs.declared.prop.Track.TheVariants.{Still, Moving}
 use Rattle.lot_types.specs.declared.prop.Position.{Position}
-use Rattle.lot_types.specs.declared.prop.Position.TheVariants.{Whole}
-use Rattle.lot_json.specs.declared.json.Json.{Json, out-Json}
-use Rattle.lot_json.specs.declared.json.Json.TheOpen as tree
-use Rattle.lot_json.specs.declared.pointer.Step.{Step}
-use Rattle.lot_read.specs.Reading.{Reading, Reader, Row, under, good, bad, ◌>>=◌, ◌⊛◌, ◌also◌, ◌then◌}
-use Rattle.lot_read.specs.Rows.{needed, optional, unbuilt, object, list}
-use Rattle.lot_read.specs.Kinds.{any, not_below_zero, above_zero, number, flag, unset}
-use Rattle.lot_read.specs.Property.{position}
+use Rattle.lot_types.specs.declared.prop.Position.TheVariants.{Whole, Split}
+use Rattle.lot_json.specs.declared.tree.json.Json.{Json, out-Json}
+use Rattle.lot_json.specs.declared.tree.json.Json.TheOpen as tree
+use Rattle.lot_json.specs.declared.tree.pointer.Step.{Step}
+use Rattle.lot_read.specs.Findings.{Findings, Reader, Row, under, good, bad, ◌>>=◌, ◌⊛◌, ◌also◌, ◌then◌}
+use Rattle.lot_read.specs.Rows.{needed, optional, unbuilt, object}
+use Rattle.lot_read.specs.Lists.{list}
+use Rattle.lot_read.specs.Number.{any, not_below_zero, above_zero, number}
+use Rattle.lot_read.specs.Flag.{flag, unset}
+use Rattle.lot_read.specs.Position.{position_rows}
+use Rattle.lot_read.specs.SlotNames.{Names}
 use Rattle.lot_play.specs.declared.document.canvas.Span.{Span}
 use Rattle.lot_play.specs.declared.document.solid.Solid.{Solid}
 use Rattle.lot_play.specs.declared.document.solid.SolidLayer.{SolidLayer}
@@ -34,24 +37,25 @@ abbrev pub hex_byte : ℕ → ℕ → Option ℕ
 hex_byte high low = hex_digit high >>= λ h. hex_digit low >>= λ l. Some (16 * h + l)
 
 -- A colour: '#' and six hexadecimal digits.
-unfoldable pub colour_of : List ℕ → Option Rgb
-colour_of (hash ∷ a ∷ b ∷ c ∷ d ∷ e ∷ f ∷ []) =
-    if hash == 35 then (hex_byte a b >>= λ r. hex_byte c d >>= λ g. hex_byte e f >>= λ b. Some (record { r = r; g = g; b = b }))
+unfoldable pub color_of : List ℕ → Option Rgb
+color_of (hash ∷ a ∷ b ∷ c ∷ d ∷ e ∷ f ∷ []) =
+    if hash == 35 then (hex_byte a b >>= λ r. hex_byte c d >>= λ g. hex_byte e f >>= λ b.
+    Some (record { r = r; g = g; b = b }))
     else None
-colour_of _ = None
+color_of _ = None
 
-abbrev pub or_no_value : {A : Type 0} → List Step → Option A → Reading A
-or_no_value at (Some x) = good x
-or_no_value at None = bad Value at
+abbrev pub good_or_value : {A : Type 0} → List Step → Option A → Findings A
+good_or_value at (Some x) = good x
+good_or_value at None = bad Value at
 
-unfoldable pub colour : Reader Rgb
-colour at j = elim (out-Json j) [ tree.Text t ↦ or_no_value at (colour_of t) | _ ↦ bad Kind at ]
+unfoldable pub hex_color : Reader Rgb
+hex_color at j = elim (out-Json j) [ tree.Text t ↦ good_or_value at (color_of t) | _ ↦ bad Kind at ]
 
 -- The blend mode that is built, which is 0.
 unfoldable pub normal_blend : Reader (Unit {0})
 normal_blend at j = number any at j then λ z. if int_eq z (pos 0) then good tt else bad Unsupported at
 
-abbrev pub without_items : List Step → List Json → Reading (Unit {0})
+abbrev pub without_items : List Step → List Json → Findings (Unit {0})
 without_items at [] = good tt
 without_items at (j ∷ js) = bad Unsupported at
 
@@ -72,17 +76,23 @@ left_out at m =
 abbrev pub origin : Point
 origin = record { x = pos 0; y = pos 0 }
 
--- Where a position stands that neither moves nor takes its value from a slot.
-abbrev pub standing : Position → Point
-standing (Whole (Own (Still p))) = p
-standing _ = origin
+-- The point of a position that is constant. One that moves, comes from a slot or is split into its coordinates is not
+-- supported yet.
+abbrev pub constant : List Step → Position → Findings Point
+constant at (Whole (Own (Still p))) = good p
+constant at (Whole (Own (Moving keys))) = bad Unsupported (under at (codes "k"))
+constant at (Whole (Slot slot)) = bad Unsupported (under at (codes "sid"))
+constant at (Split x y) = bad Unsupported (under at (codes "s"))
 
--- A transform: the way of the layer's left upper corner from that of the animation.
+unfoldable pub constant_position_rows : Names → Row Point
+constant_position_rows names at m = position_rows names at m then constant at
+
+-- A transform: the translation of the layer.
 unfoldable pub transform_rows : List (List ℕ) → Row Point
 transform_rows names at m =
-    good (λ p. standing p)
+    good (λ p. p)
     also unbuilt (codes "a") at m
-    ⊛ optional (codes "p") (position names) (Whole (Own (Still origin))) at m
+    ⊛ optional (codes "p") (object (constant_position_rows names)) origin at m
     also unbuilt (codes "s") at m
     also unbuilt (codes "r") at m
     also unbuilt (codes "o") at m
@@ -95,11 +105,19 @@ solid_rows at m =
     good (λ w h rgb. record { w = w; h = h; rgb = rgb })
     ⊛ needed (codes "sw") (number not_below_zero) at m
     ⊛ needed (codes "sh") (number not_below_zero) at m
-    ⊛ needed (codes "sc") colour at m
+    ⊛ needed (codes "sc") hex_color at m
 
 unfoldable pub layer_rows : List (List ℕ) → Row SolidLayer
 layer_rows names at m =
-    good (λ hidden ip op position solid. record { hidden = hidden; ip = ip; op = op; position = position; w = solid.w; h = solid.h; rgb = solid.rgb })
+    good (λ hidden ip op position solid. record {
+      hidden = hidden;
+      ip = ip;
+      op = op;
+      position = position;
+      w = solid.w;
+      h = solid.h;
+      rgb = solid.rgb;
+    })
     also left_out at m
     ⊛ optional (codes "hd") flag false at m
     also unbuilt (codes "ind") at m
@@ -114,21 +132,21 @@ layer_rows names at m =
     ⊛ solid_rows at m
 
 -- The type of a layer: a whole number, of which 1, a solid layer, is built.
-abbrev pub is_solid : List Step → ℤ → Reading (Unit {0})
-is_solid at z =
+abbrev pub solid_or_fault : List Step → ℤ → Findings (Unit {0})
+solid_or_fault at z =
     if int_eq z (pos (10 ^ 6)) then good tt
     else if unsigned_abs z % 10 ^ 6 == 0 then bad Unsupported at
     else bad Value at
 
 unfoldable pub layer_type : Reader (Unit {0})
-layer_type at j = number any at j then is_solid at
+layer_type at j = number any at j then solid_or_fault at
 
--- A layer. Behind a fault of its type nothing more of it is read.
+-- A layer. After a fault of its type nothing more of it is read.
 unfoldable pub layer : List (List ℕ) → Row SolidLayer
 layer names at m = needed (codes "ty") layer_type at m then λ _. layer_rows names at m
 
--- An animation ends behind its start.
-abbrev pub in_order : List Step → Span → Reading Span
+-- An animation ends after its start.
+abbrev pub in_order : List Step → Span → Findings Span
 in_order at span = if int_lt span.ip span.op then good span else bad Order (under at (codes "op"))
 
 unfoldable pub span_rows : Row Span
@@ -151,5 +169,5 @@ root names at m =
     ⊛ needed (codes "layers") (list 4096 (object (layer names))) at m
 
 -- A document. It has no slots yet.
-abbrev pub document : Json → Reading Document
+abbrev pub document : Json → Findings Document
 document j = object (root []) [] j

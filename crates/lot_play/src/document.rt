@@ -1,6 +1,6 @@
-//! A document: an animation of solid layers that stand still.
+//! A document: an animation of constant solid layers.
 pub mod canvas;
-mod colour;
+mod color;
 mod feature;
 mod layer;
 mod root;
@@ -12,7 +12,7 @@ use lot_types::Seq;
 pub use root::read_document;
 use solid::SolidLayer;
 
-/// An animation: its canvas, and its layers, of which the first lies on top.
+/// An animation: its canvas, and its layers, of which the first is on top.
 #[derive(Drop)]
 pub struct Document {
     pub canvas: Canvas,

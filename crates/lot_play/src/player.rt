@@ -1,35 +1,85 @@
 //! The top call.
-ghost use Rattle.std.specs.Prelude.{◌≡◌, ◌≤◌, ◌⊎◌, ℕ, List, []};
-ghost use Rattle.lot_play.specs.declared.command.Task.{Task};
-ghost use Rattle.lot_play.specs.declared.status.Status.{Status};
+ghost use Rattle.std.specs.Prelude.{◌≡◌, ◌≤◌, ◌⊎◌, [], ◌∷◌};
 ghost use Rattle.lot_play.specs.declared.status.Status.TheVariants as status;
-ghost use Rattle.lot_play.specs.Judged.{Writes, Ends};
-ghost use Rattle.lot_play.specs.Outside.{Rose, RoseAbove, SameTold, SameServed, Adds, AddsPrefix};
-ghost use Rattle.lot_play.specs.Output.{Asks, IsMisused, IsTold, IsWhole, IsShort, IsSilent, Output, most};
+ghost use Rattle.lot_play.specs.Arguments.{AskForNothing, AskForFrame, IsFrame};
+ghost use Rattle.lot_play.specs.Count.{Rose, RoseBy, RoseAbove};
+ghost use Rattle.lot_play.specs.Folder.{SameContents, SameServed};
+ghost use Rattle.lot_play.specs.Sink.{Gains, GainsPrefix};
+ghost use Rattle.lot_play.specs.Status.{IsJudged, IsComplete, IsShort, IsSilent};
+ghost use Rattle.lot_play.specs.Output.{Outcome, Output, Performs, IsKnown, AreKnown, AreServed, total_length, max_document_bytes};
+ghost use Rattle.lot_play.specs.Run.{Writes, Ends};
 
-use crate::answer::{Answer, answer_content};
-use crate::command::{Task, request_of};
+use crate::answer::Answer;
+use crate::judge::judge;
 use crate::outside::{Folder, Sink, SinkRefusal};
 use crate::reading::{ReadRefusal, read_all};
+use crate::request::Request;
 use crate::status::Status;
+use crate::task::Task;
 use crate::writing::write_all;
 use lot_types::{Seq, Steps, Text};
 use std::alloc::Global;
 use std::sync::ledger::Ledger;
 
-/// Writes an answer, and tells how that ended.
-fn write_answer<K: Sink>(out: &mut K, answer: &Answer) -> Status
-    ensures written { Writes answer.now.bytes answer.now.status (K.held out.old) (K.held out.new) (K.faults out.old) (K.faults out.new) result }
-    ensures later { K.faults out.old ≤ K.faults out.new }
+/// Runs the program on the arguments after its name, and answers how it ended.
+///
+/// `check DOC` writes whether the document `DOC` is accepted, and `frame DOC TIME` writes its frame at `TIME`, in frames, as
+/// SVG. Any other arguments are no command: the status is [`Status::Usage`], and neither the folder nor the sink is used.
+/// The folder has to serve the name `DOC`. No evaluation is counted.
+pub fn run<F: Folder, K: Sink, L: Ledger>(
+    alloc: Global,
+    arguments: &Seq<Text>,
+    folder: &mut F,
+    out: &mut K,
+    steps: &mut Steps<L>,
+) -> Status
+    requires serves { AreServed (F.serves folder.old) arguments.now }
+
+    // A run that is complete answered the defined status and wrote the defined bytes, and there are such.
+    ensures defined { IsComplete result → (o : Outcome)
+        → Output (F.state folder.old).content arguments.now o
+        → (result ≡ o.answer.status) × Gains (K.state out.old) (K.state out.new) o.answer.bytes }
+    ensures exists { IsComplete result → AreKnown (F.state folder.old).content arguments.now
+        → (o : Outcome) × Output (F.state folder.old).content arguments.now o
+        × (result ≡ o.answer.status) }
+
+    // What was read is read once.
+    ensures read_once { IsJudged result → (o : Outcome)
+        → Output (F.state folder.old).content arguments.now o
+        → RoseBy (total_length o.read) (F.state folder.old).given (F.state folder.new).given }
+
+    // A run that stopped short wrote a prefix of the defined bytes.
+    ensures prefix { IsShort result → (o : Outcome)
+        → Output (F.state folder.old).content arguments.now o
+        → GainsPrefix (K.state out.old) (K.state out.new) o.answer.bytes }
+    ensures silent { IsSilent result → Gains (K.state out.old) (K.state out.new) [] }
+
+    // The causes of the statuses.
+    ensures misused { AskForNothing arguments.now
+        → (result ≡ status.Usage) × (folder.new ≡ folder.old) × (out.new ≡ out.old) }
+    ensures usage { result ≡ status.Usage
+        → AskForNothing arguments.now ⊎ AskForFrame arguments.now }
+    ensures read_fault { result ≡ status.ReadFault
+        → Rose (F.state folder.old).faults (F.state folder.new).faults }
+    ensures write_fault { result ≡ status.WriteFault
+        → Rose (K.state out.old).faults (K.state out.new).faults }
+    ensures too_long { result ≡ status.TooLong
+        → RoseAbove max_document_bytes (F.state folder.old).given (F.state folder.new).given }
+    ensures complete { (Rose (F.state folder.old).faults (F.state folder.new).faults → ⊥)
+        → (Rose (K.state out.old).faults (K.state out.new).faults → ⊥)
+        → IsComplete result ⊎ (result ≡ status.Memory) }
+
+    ensures same { SameContents (F.state folder.old) (F.state folder.new) }
+    ensures served { SameServed (F.serves folder.old) (F.serves folder.new) }
+    ensures uncounted { steps.new ≡ steps.old }
 {
-    match write_all(out, answer.bytes.as_slice()) {
-        Ok(_) => answer.status,
-        Err(SinkRefusal::Failed) => Status::WriteFault,
-        Err(SinkRefusal::Memory) => Status::Memory,
+    match Request::of(arguments) {
+        Some(request) => run_task(alloc, request.document, request.task, folder, out),
+        None => Status::Usage,
     }
 }
 
-/// Runs a task on a document.
+/// Runs a task on the document that it reads.
 fn run_task<F: Folder, K: Sink>(
     alloc: Global,
     document: &str,
@@ -38,9 +88,11 @@ fn run_task<F: Folder, K: Sink>(
     out: &mut K,
 ) -> Status
     requires { F.serves folder.old document.now }
-    ensures ends { Ends (F.told folder.old document.now) task (K.held out.old) (K.held out.new) (F.faults folder.old) (F.faults folder.new)
-        (F.given folder.old) (F.given folder.new) (K.faults out.old) (K.faults out.new) result }
-    ensures told { SameTold (F.told folder.old) (F.told folder.new) }
+    ensures ends { Ends (Performs (F.state folder.old).content task [] (document.now ∷ []))
+        (IsKnown (F.state folder.old).content document.now)
+        (F.state folder.old) (F.state folder.new) (K.state out.old) (K.state out.new) result }
+    ensures usage { result ≡ status.Usage → IsFrame task }
+    ensures same { SameContents (F.state folder.old) (F.state folder.new) }
     ensures served { SameServed (F.serves folder.old) (F.serves folder.new) }
 {
     let content = match read_all(alloc, folder, document) {
@@ -49,51 +101,20 @@ fn run_task<F: Folder, K: Sink>(
         Err(ReadRefusal::TooLong) => return Status::TooLong,
         Err(ReadRefusal::Memory) => return Status::Memory,
     };
-    match answer_content(alloc, content.as_slice(), task) {
+    match judge(alloc, content.as_slice(), task) {
         Ok(answer) => write_answer(out, &answer),
         Err(_) => Status::Memory,
     }
 }
 
-/// Runs the program on the words behind its name, and answers how it ended.
-///
-/// The words `check DOC` say whether the document `DOC` is accepted, and `frame DOC TIME` write its frame at `TIME`, in
-/// frames, as SVG. Every other list of words is no command. The folder has to serve the name `DOC`. No evaluation is
-/// counted.
-pub fn run<F: Folder, K: Sink, L: Ledger>(
-    alloc: Global,
-    words: &Seq<Text>,
-    folder: &mut F,
-    out: &mut K,
-    steps: &mut Steps<L>,
-) -> Status
-    requires serves { (name : List ℕ) (task : Task) → Asks words.now name task → F.serves folder.old name }
-
-    // A run that ends has written the defined bytes, answered the defined status, and no others.
-    ensures defined { IsWhole result → (bytes : List ℕ) (status : Status) → Output (F.told folder.old) words.now bytes status
-        → (result ≡ status) × Adds (K.held out.old) (K.held out.new) bytes }
-    ensures exists { IsWhole result → IsTold (F.told folder.old) words.now
-        → (bytes : List ℕ) × Output (F.told folder.old) words.now bytes result }
-
-    // A run that stops short has written the front of the defined bytes.
-    ensures front { IsShort result → (bytes : List ℕ) (status : Status) → Output (F.told folder.old) words.now bytes status
-        → AddsPrefix (K.held out.old) (K.held out.new) bytes }
-    ensures silent { IsSilent result → Adds (K.held out.old) (K.held out.new) [] }
-
-    // The causes of the statuses.
-    ensures misused { IsMisused words.now → (result ≡ status.Usage) × (folder.new ≡ folder.old) × (out.new ≡ out.old) }
-    ensures read_fault { result ≡ status.ReadFault → Rose (F.faults folder.old) (F.faults folder.new) }
-    ensures write_fault { result ≡ status.WriteFault → Rose (K.faults out.old) (K.faults out.new) }
-    ensures too_long { result ≡ status.TooLong → RoseAbove most (F.given folder.old) (F.given folder.new) }
-    ensures complete { (Rose (F.faults folder.old) (F.faults folder.new) → ⊥) → (Rose (K.faults out.old) (K.faults out.new) → ⊥)
-        → IsWhole result ⊎ (result ≡ status.Memory) }
-
-    ensures told { SameTold (F.told folder.old) (F.told folder.new) }
-    ensures served { SameServed (F.serves folder.old) (F.serves folder.new) }
-    ensures uncounted { steps.new ≡ steps.old }
+/// Writes an answer, and answers how that ended.
+fn write_answer<K: Sink>(out: &mut K, answer: &Answer) -> Status
+    ensures written { Writes answer.now (K.state out.old) (K.state out.new) result }
+    ensures later { (K.state out.old).faults ≤ (K.state out.new).faults }
 {
-    match request_of(words) {
-        Some(request) => run_task(alloc, request.document, request.task, folder, out),
-        None => Status::Usage,
+    match write_all(out, answer.bytes.as_slice()) {
+        Ok(_) => answer.status,
+        Err(SinkRefusal::Failed) => Status::WriteFault,
+        Err(SinkRefusal::Memory) => Status::Memory,
     }
 }

@@ -1,46 +1,37 @@
-ghost use Rattle.std.specs.Prelude.{◌≡◌, ◌<◌, ◌≤◌, ℕ, List, length, IfOk, Err};
-ghost use Rattle.lot_play.specs.Outside.{Rose, RoseAbove, Told, SameTold, SameServed};
+//! Reading a content from a folder to its end.
+ghost use Rattle.std.specs.Prelude.{◌≡◌, ◌<◌, ◌≤◌, ℕ, List, Some, length, IfOk, Err};
+ghost use Rattle.lot_play.specs.Count.{Rose, RoseBy, RoseAbove};
+ghost use Rattle.lot_play.specs.Folder.{SameContents, SameServed};
 ghost use Rattle.lot_play.specs.declared.reading.ReadRefusal.TheVariants as refusal;
-ghost use Rattle.lot_play.specs.declared.reading.TheConstants.{MOST};
+ghost use Rattle.lot_play.specs.declared.reading.TheConstants.{MAX_DOCUMENT_BYTES};
 
 use crate::outside::Folder;
 use lot_types::{Bytes, Memory};
 use std::alloc::Global;
 use thiserror::Error;
 
-/// The most bytes that a document may have.
-pub const MOST: usize = 16_777_216;
+/// The greatest number of bytes of a document.
+pub const MAX_DOCUMENT_BYTES: usize = 16_777_216;
 
-/// Why a content is not handed out.
-#[derive(Clone, Copy, Debug, PartialEq, Eq, Error)]
-pub enum ReadRefusal {
-    #[error("the folder failed")]
-    Failed,
-    #[error("too long")]
-    TooLong,
-    #[error("out of memory")]
-    Memory,
-}
-
-impl From<Memory> for ReadRefusal {
-    ghost from_gives = { λ _ e. e ≡ refusal.Memory };
-
-    fn from(_memory: Memory) -> ReadRefusal {
-        ReadRefusal::Memory
-    }
-}
-
-/// Reads a content to its end.
+/// Reads the content of a name, once and to its end.
+///
+/// It answers the content, or that it has more than [`MAX_DOCUMENT_BYTES`], or that the folder failed. The folder's contents
+/// are as before in every case.
 pub fn read_all<F: Folder>(alloc: Global, folder: &mut F, name: &str) -> Result<Bytes, ReadRefusal>
     requires { F.serves folder.old name.now }
-    ensures content { IfOk result (λ b. (content : List ℕ) → Told (F.told folder.old name.now) content → b ≡ content) }
-    ensures short { IfOk result (λ b. length b ≤ MOST) }
-    ensures long { result ≡ Err refusal.TooLong
-        → (content : List ℕ) → Told (F.told folder.old name.now) content → MOST < length content }
-    ensures long_given { result ≡ Err refusal.TooLong → RoseAbove MOST (F.given folder.old) (F.given folder.new) }
-    ensures failed { result ≡ Err refusal.Failed → Rose (F.faults folder.old) (F.faults folder.new) }
-    ensures later { F.faults folder.old ≤ F.faults folder.new }
-    ensures told { SameTold (F.told folder.old) (F.told folder.new) }
+    ensures content { IfOk result (λ b. (content : List ℕ)
+        → (F.state folder.old).content name.now ≡ Some content → b ≡ content) }
+    ensures short { IfOk result (λ b. length b ≤ MAX_DOCUMENT_BYTES) }
+    ensures once { IfOk result (λ b.
+        RoseBy (length b) (F.state folder.old).given (F.state folder.new).given) }
+    ensures long { result ≡ Err refusal.TooLong → (content : List ℕ)
+        → (F.state folder.old).content name.now ≡ Some content → MAX_DOCUMENT_BYTES < length content }
+    ensures long_given { result ≡ Err refusal.TooLong
+        → RoseAbove MAX_DOCUMENT_BYTES (F.state folder.old).given (F.state folder.new).given }
+    ensures failed { result ≡ Err refusal.Failed
+        → Rose (F.state folder.old).faults (F.state folder.new).faults }
+    ensures later { (F.state folder.old).faults ≤ (F.state folder.new).faults }
+    ensures same { SameContents (F.state folder.old) (F.state folder.new) }
     ensures served { SameServed (F.serves folder.old) (F.serves folder.new) }
 {
     let mut content = Bytes::new(alloc);
@@ -55,8 +46,30 @@ pub fn read_all<F: Folder>(alloc: Global, folder: &mut F, name: &str) -> Result<
             return Ok(content);
         }
         content.append(&buf[..n])?;
-        if content.as_slice().len() > MOST {
+        if content.as_slice().len() > MAX_DOCUMENT_BYTES {
             return Err(ReadRefusal::TooLong);
         }
+    }
+}
+
+/// Why a content was not read.
+#[derive(Clone, Copy, Debug, PartialEq, Eq, Error)]
+pub enum ReadRefusal {
+    /// A read of the folder failed.
+    #[error("the folder failed")]
+    Failed,
+    /// The content has more than [`MAX_DOCUMENT_BYTES`].
+    #[error("too long")]
+    TooLong,
+    /// Want of memory for the content.
+    #[error("out of memory")]
+    Memory,
+}
+
+impl From<Memory> for ReadRefusal {
+    ghost from_gives = { λ _ e. e ≡ refusal.Memory };
+
+    fn from(_memory: Memory) -> ReadRefusal {
+        ReadRefusal::Memory
     }
 }

@@ -1,4 +1,4 @@
--- Names, each where it first came, and what a table of names holds that takes them in turn.
+-- Names, each where it first comes, and the table of names that takes them in turn.
 use Rattle.std.proofs.Common.{◌≡◌, ℕ, Bool, true, false, not, ◌||◌, ◌&&◌, List, [], ◌∷◌, ◌++◌, map, filter, refl, ap, sym, ◌∙◌, cond}
 use Rattle.std.specs.List.{list_any}
 use Rattle.std.specs.Str.{bytes_eq}
@@ -7,10 +7,7 @@ use Rattle.std.proofs.lemmas.List.Elements.{filter-append}
 use Rattle.std.proofs.lemmas.Map.Views.{any-filter_same}
 use Rattle.std.proofs.lemmas.List.{append-nil}
 use Rattle.indexmap.specs.IndexMap.{insert_entry}
-use Rattle.lot_read.specs.Names.{first_come, among}
-
-abbrev pub Names : Type 0
-Names = List (List ℕ)
+use Rattle.lot_read.specs.SlotNames.{Names, first_come, among}
 
 -- The names and one more, which goes last where it is not there.
 abbrev pub put : Names → List ℕ → Names
@@ -77,7 +74,7 @@ first_come_more (x ∷ xs) n =
     ap (λ (zs : Names). x ∷ others x zs) (first_come_more xs n)
     ∙ step_by x n (first_come xs) (bytes_eq n x) refl
 
--- No name is among those behind it.
+-- No name is among those after it.
 abbrev pub Apart : Names → Type 0
 Apart [] = Unit {0}
 Apart (x ∷ xs) = (among x xs ≡ false) × Apart xs
@@ -105,49 +102,50 @@ first_come_apart [] = tt
 first_come_apart (x ∷ xs) = (not_among_others x (first_come xs), apart_kept (λ y. not (bytes_eq x y)) (first_come xs) (first_come_apart xs))
 
 -- Each name with a mark.
-abbrev pub marked : (List ℕ → Bool) → Names → List (List ℕ × Bool)
+abbrev pub marked : {M : Type 0} → (List ℕ → M) → Names → List (List ℕ × M)
 marked f names = map (λ z. (z, f z)) names
 
 -- Marks that differ at n alone.
-abbrev pub SameBut : List ℕ → (List ℕ → Bool) → (List ℕ → Bool) → Type 0
+abbrev pub SameBut : {M : Type 0} → List ℕ → (f g : List ℕ → M) → Type 0
 SameBut n f g = (z : List ℕ) → bytes_eq n z ≡ false → g z ≡ f z
 
 split_false : (b c : Bool) → (b || c) ≡ false → (b ≡ false) × (c ≡ false)
 split_false false c h = (refl, h)
 split_false true c h = absurd (cc)
 
-marked_same : (n : List ℕ) (f g : List ℕ → Bool) (names : Names) → SameBut n f g → among n names ≡ false → marked f names ≡ marked g names
+marked_same : {M : Type 0} (n : List ℕ) (f g : List ℕ → M) (names : Names) → SameBut n f g → among n names ≡ false → marked f names ≡ marked g names
 marked_same n f g [] same h = refl
-marked_same n f g (y ∷ ys) same h =
+marked_same {M} n f g (y ∷ ys) same h =
     let k = split_false (bytes_eq n y) (among n ys) h in
-    ap (λ (b : Bool). (y, b) ∷ marked f ys) (sym (same y k.0)) ∙ ap (λ (zs : List (List ℕ × Bool)). (y, g y) ∷ zs) (marked_same n f g ys same k.1)
+    ap (λ (b : M). (y, b) ∷ marked f ys) (sym (same y k.0)) ∙ ap (λ (zs : List (List ℕ × M)). (y, g y) ∷ zs) (marked_same n f g ys same k.1)
 
--- A table that holds each name with its mark, and takes one more.
-insert_by : (f g : List ℕ → Bool) (n : List ℕ) (x : List ℕ) (xs : Names) (b : Bool) → bytes_eq n x ≡ b → SameBut n f g → among x xs ≡ false
+-- A table that has each name with its mark, and takes one more.
+insert_by : {M : Type 0} (f g : List ℕ → M) (n : List ℕ) (x : List ℕ) (xs : Names) (b : Bool) → bytes_eq n x ≡ b → SameBut n f g → among x xs ≡ false
     → insert_entry bytes_eq (marked f xs) n (g n) ≡ marked g (put xs n)
     → cond b ((x, g n) ∷ marked f xs) ((x, f x) ∷ insert_entry bytes_eq (marked f xs) n (g n)) ≡ marked g (cond (b || among n xs) (x ∷ xs) ((x ∷ xs) ++ n ∷ []))
-insert_by f g n x xs true e same free more =
+insert_by {M} f g n x xs true e same free more =
     let is : n ≡ x = same_from n x e in
     ap (λ (z : List ℕ). (x, g z) ∷ marked f xs) is
-    ∙ ap (λ (zs : List (List ℕ × Bool)). (x, g x) ∷ zs) (marked_same n f g xs same (ap (λ (z : List ℕ). among z xs) is ∙ free))
-insert_by f g n x xs false e same free more =
-    ap (λ (b : Bool). (x, b) ∷ insert_entry bytes_eq (marked f xs) n (g n)) (sym (same x e))
-    ∙ ap (λ (zs : List (List ℕ × Bool)). (x, g x) ∷ zs) more
+    ∙ ap (λ (zs : List (List ℕ × M)). (x, g x) ∷ zs) (marked_same n f g xs same (ap (λ (z : List ℕ). among z xs) is ∙ free))
+insert_by {M} f g n x xs false e same free more =
+    ap (λ (b : M). (x, b) ∷ insert_entry bytes_eq (marked f xs) n (g n)) (sym (same x e))
+    ∙ ap (λ (zs : List (List ℕ × M)). (x, g x) ∷ zs) more
     ∙ ap (λ (zs : Names). marked g zs) (front x n xs (among n xs))
 
-pub insert_marked : (f g : List ℕ → Bool) (n : List ℕ) (names : Names) → SameBut n f g → Apart names → insert_entry bytes_eq (marked f names) n (g n) ≡ marked g (put names n)
+pub insert_marked : {M : Type 0} (f g : List ℕ → M) (n : List ℕ) (names : Names) → SameBut n f g → Apart names → insert_entry bytes_eq (marked f names) n (g n) ≡ marked g (put names n)
 insert_marked f g n [] same apart = refl
 insert_marked f g n (x ∷ xs) same apart = insert_by f g n x xs (bytes_eq n x) refl same apart.0 (insert_marked f g n xs same apart.1)
 
--- The names whose mark is set.
-set_by : (f : List ℕ → Bool) (x : List ℕ) (b : Bool) (kept : List (List ℕ × Bool)) (names : Names) → map (λ e. e.0) kept ≡ names
-    → map (λ e. e.0) (cond b ((x, b) ∷ kept) kept) ≡ cond b (x ∷ names) names
-set_by f x true kept names h = ap (λ (zs : Names). x ∷ zs) h
-set_by f x false kept names h = h
+-- The names whose mark passes a test.
+kept_by : {M : Type 0} (f : List ℕ → M) (x : List ℕ) (b : Bool) (kept : List (List ℕ × M)) (names : Names) → kept ≡ marked f names
+    → cond b ((x, f x) ∷ kept) kept ≡ marked f (cond b (x ∷ names) names)
+kept_by {M} f x true kept names h = ap (λ (zs : List (List ℕ × M)). (x, f x) ∷ zs) h
+kept_by f x false kept names h = h
 
-pub names_set : (f : List ℕ → Bool) (names : Names) → map (λ e. e.0) (filter (λ e. e.1) (marked f names)) ≡ filter f names
-names_set f [] = refl
-names_set f (x ∷ xs) = set_by f x (f x) (filter (λ e. e.1) (marked f xs)) (filter f xs) (names_set f xs)
+pub marked_kept : {M : Type 0} (f : List ℕ → M) (test : M → Bool) (names : Names) → filter (λ e. test e.1) (marked f names) ≡ marked f (filter (λ n. test (f n)) names)
+marked_kept f test [] = refl
+marked_kept f test (x ∷ xs) =
+    kept_by f x (test (f x)) (filter (λ e. test e.1) (marked f xs)) (filter (λ n. test (f n)) xs) (marked_kept f test xs)
 
 -- A name is among the names that come first where it is among all.
 among_by : (n x : List ℕ) (first names : Names) (b : Bool) → bytes_eq n x ≡ b → among n first ≡ among n names → (b || among n (others x first)) ≡ (b || among n names)

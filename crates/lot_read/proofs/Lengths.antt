@@ -1,15 +1,16 @@
 -- What is read of a list has as many items as the list.
 use Rattle.std.proofs.Common.{◌≡◌, ℕ, ◌+◌, List, [], ◌∷◌, Option, Some, None, length, refl, ap, sym, arith}
-use Rattle.lot_json.specs.declared.json.Json.{Json, out-Json}
-use Rattle.lot_json.specs.declared.json.Json.TheOpen as tree
-use Rattle.lot_json.specs.declared.pointer.Step.{Step}
+use Rattle.lot_json.specs.declared.tree.json.Json.{Json, out-Json}
+use Rattle.lot_json.specs.declared.tree.json.Json.TheOpen as tree
+use Rattle.lot_json.specs.declared.tree.pointer.Step.{Step}
 use Rattle.lot_json.specs.Lookup.{member}
 use Rattle.lot_types.specs.declared.fault.FaultCode.TheVariants.{Kind, Missing}
-use Rattle.lot_read.specs.Reading.{Reading, Reader, Pairs, under, item, good, bad, ◌>>=◌, ◌⊛◌}
-use Rattle.lot_read.specs.Rows.{needed, each, list, at_most, length_of}
-use Rattle.lot_read.specs.Values.{count_in}
+use Rattle.lot_read.specs.Findings.{Findings, Reader, Pairs, under, item, good, bad, ◌>>=◌, ◌⊛◌}
+use Rattle.lot_read.specs.Lists.{each, list, at_most, length_of}
+use Rattle.lot_read.specs.Rows.{needed}
+use Rattle.lot_read.specs.Bezier.{count_in}
 
--- A front item and the items behind it, where both are read.
+-- A first item and the items after it, where both are read.
 abbrev both : {A : Type 0} → Option A → Option (List A) → Option (List A)
 both {A} x ys = ◌>>=◌ {A = List A → List A} {B = List A} (◌>>=◌ {A = A} {B = List A → List A} x (λ y. Some (λ t. y ∷ t))) (λ f. ◌>>=◌ {A = List A} {B = List A} ys (λ t. Some (f t)))
 
@@ -27,32 +28,32 @@ each_length reader at i (j ∷ js) xs e =
     omega (arith, h.2, k)
 
 -- A list that is read whole: a limit, and the items.
-abbrev behind : {A : Type 0} → Option (Unit {0}) → Option (List A) → Option (List A)
-behind {A} limit ys = ◌>>=◌ {A = List A → List A} {B = List A} (◌>>=◌ {A = Unit {0}} {B = List A → List A} limit (λ _. Some (λ t. t))) (λ f. ◌>>=◌ {A = List A} {B = List A} ys (λ t. Some (f t)))
+abbrev limited : {A : Type 0} → Option (Unit {0}) → Option (List A) → Option (List A)
+limited {A} limit ys = ◌>>=◌ {A = List A → List A} {B = List A} (◌>>=◌ {A = Unit {0}} {B = List A → List A} limit (λ _. Some (λ t. t))) (λ f. ◌>>=◌ {A = List A} {B = List A} ys (λ t. Some (f t)))
 
-read_behind : {A : Type 0} (limit : Option (Unit {0})) (ys : Option (List A)) (xs : List A) → behind limit ys ≡ Some xs → ys ≡ Some xs
-read_behind (Some x) (Some ys) xs e = e
-read_behind (Some x) None xs e = absurd (cc)
-read_behind None ys xs e = absurd (cc)
+read_limited : {A : Type 0} (limit : Option (Unit {0})) (ys : Option (List A)) (xs : List A) → limited limit ys ≡ Some xs → ys ≡ Some xs
+read_limited (Some x) (Some ys) xs e = e
+read_limited (Some x) None xs e = absurd (cc)
+read_limited None ys xs e = absurd (cc)
 
-pub list_length : {A : Type 0} (most : ℕ) (reader : Reader A) (at : List Step) (j : Json) (xs : List A) → (list most reader at j).value ≡ Some xs → length_of j ≡ Some (length xs)
+pub list_length : {A : Type 0} (max : ℕ) (reader : Reader A) (at : List Step) (j : Json) (xs : List A) → (list max reader at j).value ≡ Some xs → length_of j ≡ Some (length xs)
 unfolding list length_of
-list_length {A} most reader at j xs =
+list_length {A} max reader at j xs =
     elim (out-Json j) as (λ v.
-    (let read : Reading (List A) = elim v [ tree.Items js ↦ good (λ (_ : Unit {0}) (ys : List A). ys) ⊛ at_most most at js ⊛ each reader at 0 js | _ ↦ bad Kind at ] in read.value ≡ Some xs)
+    (let read : Findings (List A) = elim v [ tree.Items js ↦ good (λ (_ : Unit {0}) (ys : List A). ys) ⊛ at_most max at js ⊛ each reader at 0 js | _ ↦ bad Kind at ] in read.value ≡ Some xs)
     → (let count : Option ℕ = elim v [ tree.Items js ↦ Some (length js) | _ ↦ None ] in count ≡ Some (length xs))) [
-      | tree.Items js ↦ λ e. ap (λ (n : ℕ). Some n) (sym (each_length reader at 0 js xs (read_behind (at_most most at js).value (each reader at 0 js).value xs e)))
+      | tree.Items js ↦ λ e. ap (λ (n : ℕ). Some n) (sym (each_length reader at 0 js xs (read_limited (at_most max at js).value (each reader at 0 js).value xs e)))
       | _ ↦ λ e. absurd (cc)
     ]
 
 -- The list of a member that is needed and read.
-pub needed_count : {A : Type 0} (name : List ℕ) (most : ℕ) (reader : Reader A) (at : List Step) (m : Pairs) (xs : List A)
-    → (needed name (list most reader) at m).value ≡ Some xs → count_in name m ≡ Some (length xs)
+pub needed_count : {A : Type 0} (name : List ℕ) (max : ℕ) (reader : Reader A) (at : List Step) (m : Pairs) (xs : List A)
+    → (needed name (list max reader) at m).value ≡ Some xs → count_in name m ≡ Some (length xs)
 unfolding needed
-needed_count {A} name most reader at m xs =
+needed_count {A} name max reader at m xs =
     elim (member name m) as (λ v.
-    (let read : Reading (List A) = elim v [ None ↦ bad Missing (under at name) | Some j ↦ list most reader (under at name) j ] in read.value ≡ Some xs)
+    (let read : Findings (List A) = elim v [ None ↦ bad Missing (under at name) | Some j ↦ list max reader (under at name) j ] in read.value ≡ Some xs)
     → (v >>= length_of) ≡ Some (length xs)) [
       | None ↦ λ e. absurd (cc)
-      | Some j ↦ λ e. list_length most reader (under at name) j xs e
+      | Some j ↦ λ e. list_length max reader (under at name) j xs e
     ]

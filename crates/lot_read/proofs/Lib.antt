@@ -1,6 +1,9 @@
 pub mod Faults
 mod FirstCome
 mod Items
+mod LastPairs
 mod Lengths
 mod MarkedNames
 mod SeenNames
+pub mod Sound
+pub mod SoundValues

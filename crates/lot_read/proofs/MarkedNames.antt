@@ -1,15 +1,18 @@
 -- Which names are there: with one pair more, and by the table of members.
-use Rattle.std.proofs.Common.{◌≡◌, ℕ, Bool, true, false, not, ◌||◌, ◌&&◌, cond, List, [], ◌∷◌, ◌++◌, map, filter, fold, Option, Some, None, refl, ap, sym, ◌∙◌}
-use Rattle.std.specs.Option.{is_some}
+use Rattle.std.proofs.Common.{◌≡◌, ℕ, ◌+◌, add-one, length, Bool, true, false, not, ◌||◌, ◌&&◌, cond, List, [], ◌∷◌, ◌++◌, map, filter, fold, Option, Some, None, refl, ap, sym, ◌∙◌}
+use Rattle.std.specs.Option.{is_some, unwrap_or}
+use Rattle.std.specs.List.{All}
 use Rattle.std.specs.Str.{bytes_eq}
 use Rattle.std.proofs.lemmas.List.{map-append}
+use Rattle.std.proofs.lemmas.List.Elements.{All-nil, All-cons}
 use Rattle.std.proofs.lemmas.List.Sums.{fold-append}
 use Rattle.indexmap.specs.IndexMap.{insert_entry}
-use Rattle.lot_json.specs.declared.json.Json.{Json}
+use Rattle.lot_json.specs.declared.tree.json.Json.{Json}
 use Rattle.lot_json.specs.Lookup.{is_null, unless_null, last_value, member}
-use Rattle.lot_read.specs.Names.{first_come, all_names, is_there, among}
-use Rattle.lot_read.specs.Reading.{Pairs}
-use Rattle.lot_read.specs.Seen.{marked_names}
+use Rattle.lot_read.specs.declared.slot_names.LastPair.{LastPair}
+use Rattle.lot_read.specs.SlotNames.{Names, NamedPair, IsSlotOf, first_come, all_names, is_there, among, later_or_here, last_pair, names_in}
+use Rattle.lot_read.specs.Findings.{Pairs}
+use Rattle.lot_read.specs.NameTable.{last_pair_of, marked_names}
 use Rattle.lot_read.proofs.FirstCome.{SameBut, eq_self, equal_back, marked, put, first_come_more, first_come_apart, insert_marked, among_first_come, among_kept}
 
 there_by : (x : Json) (b : Bool) → is_null x ≡ b → is_some (cond b None (Some x)) ≡ not b
@@ -19,7 +22,7 @@ there_by x false e = refl
 pair_more : (ps : Pairs) (p : List ℕ × Json) (name : List ℕ) → last_value name (ps ++ p ∷ []) ≡ cond (bytes_eq p.0 name) (Some p.1) (last_value name ps)
 pair_more ps p name = fold-append (λ (found : Option Json) (pair : List ℕ × Json). cond (bytes_eq pair.0 name) (Some pair.1) found) None ps (p ∷ [])
 
--- The last pair of a name tells whether it is there.
+-- A name is there where the value of its last pair is.
 there_more : (ps : Pairs) (p : List ℕ × Json) (name : List ℕ) (b : Bool) → bytes_eq p.0 name ≡ b → is_there (ps ++ p ∷ []) name ≡ cond b (not (is_null p.1)) (is_there ps name)
 unfolding member
 there_more ps p name true e =
@@ -33,13 +36,46 @@ there_more ps p name false e =
 all_names_more : (ps : Pairs) (p : List ℕ × Json) → all_names (ps ++ p ∷ []) ≡ put (all_names ps) p.0
 all_names_more ps p = ap first_come (map-append (λ (q : List ℕ × Json). q.0) ps (p ∷ [])) ∙ first_come_more (map (λ q. q.0) ps) p.0
 
-pub marked_more : (ps : Pairs) (p : List ℕ × Json) → insert_entry bytes_eq (marked_names ps) p.0 (not (is_null p.1)) ≡ marked_names (ps ++ p ∷ [])
+abbrev pub made_of : ℕ → Bool → LastPair
+made_of index is_there = record { index = index; is_there = is_there }
+
+both_by_case : (b : Bool) (n : ℕ) (now : Bool) (last : Option ℕ) (before : Bool)
+    → made_of (unwrap_or (cond b (Some n) last) 0) (cond b now before) ≡ cond b (made_of n now) (made_of (unwrap_or last 0) before)
+both_by_case true n now last before = refl
+both_by_case false n now last before = refl
+
+here_by : (b : Bool) → later_or_here None b ≡ cond b (Some 0) None
+here_by true = refl
+here_by false = refl
+
+later_by : (b here : Bool) (n : ℕ) (before : Option ℕ) → later_or_here (cond b (Some n) before) here ≡ cond b (Some (n + 1)) (later_or_here before here)
+later_by true here n before = refl
+later_by false here n before = refl
+
+-- The last pair of a name with one pair more.
+last_more : (ps : Pairs) (p : List ℕ × Json) (name : List ℕ) → last_pair name (ps ++ p ∷ []) ≡ cond (bytes_eq p.0 name) (Some (length ps)) (last_pair name ps)
+last_more [] p name = here_by (bytes_eq p.0 name)
+last_more (q ∷ qs) p name =
+    ap (λ (o : Option ℕ). later_or_here o (bytes_eq q.0 name)) (last_more qs p name)
+    ∙ later_by (bytes_eq p.0 name) (bytes_eq q.0 name) (length qs) (last_pair name qs)
+    ∙ ap (λ (n : ℕ). cond (bytes_eq p.0 name) (Some n) (last_pair name (q ∷ qs))) (add-one (length qs))
+
+last_by : (ps : Pairs) (p : List ℕ × Json) (name : List ℕ) (b : Bool) → bytes_eq p.0 name ≡ b
+    → last_pair_of (ps ++ p ∷ []) name ≡ cond b (record { index = length ps; is_there = not (is_null p.1) }) (last_pair_of ps name)
+last_by ps p name b e =
+    ap (λ (o : Option ℕ). made_of (unwrap_or o 0) (is_there (ps ++ p ∷ []) name)) (last_more ps p name)
+    ∙ ap (λ (c : Bool). made_of (unwrap_or (cond c (Some (length ps)) (last_pair name ps)) 0) (is_there (ps ++ p ∷ []) name)) e
+    ∙ ap (λ (c : Bool). made_of (unwrap_or (cond b (Some (length ps)) (last_pair name ps)) 0) c) (there_more ps p name b e)
+    ∙ both_by_case b (length ps) (not (is_null p.1)) (last_pair name ps) (is_there ps name)
+
+pub marked_more : (ps : Pairs) (p : List ℕ × Json)
+    → insert_entry bytes_eq (marked_names ps) p.0 (made_of (length ps) (not (is_null p.1))) ≡ marked_names (ps ++ p ∷ [])
 marked_more ps p =
-    let itself : is_there (ps ++ p ∷ []) p.0 ≡ not (is_null p.1) = there_more ps p p.0 true (eq_self p.0) in
-    let same : SameBut p.0 (is_there ps) (is_there (ps ++ p ∷ [])) = λ z e. there_more ps p z false e in
-    ap (λ (b : Bool). insert_entry bytes_eq (marked_names ps) p.0 b) (sym itself)
-    ∙ insert_marked (is_there ps) (is_there (ps ++ p ∷ [])) p.0 (all_names ps) same (first_come_apart (map (λ q. q.0) ps))
-    ∙ ap (marked (is_there (ps ++ p ∷ []))) (sym (all_names_more ps p))
+    let itself : last_pair_of (ps ++ p ∷ []) p.0 ≡ made_of (length ps) (not (is_null p.1)) = last_by ps p p.0 true (eq_self p.0) in
+    let same : SameBut p.0 (last_pair_of ps) (last_pair_of (ps ++ p ∷ [])) = λ z e. last_by ps p z false e in
+    ap (λ (last : LastPair). insert_entry bytes_eq (marked_names ps) p.0 last) (sym itself)
+    ∙ insert_marked (last_pair_of ps) (last_pair_of (ps ++ p ∷ [])) p.0 (all_names ps) same (first_come_apart (map (λ q. q.0) ps))
+    ∙ ap (marked (last_pair_of (ps ++ p ∷ []))) (sym (all_names_more ps p))
 
 or_true : (b c : Bool) → c ≡ true → (b || c) ≡ true
 or_true true c e = refl
@@ -53,10 +89,10 @@ some_or : (o : Option Json) → is_some o ≡ true → (is_some o || false) ≡ 
 some_or (Some x) e = refl
 some_or None e = absurd (cc)
 
-found_by : (name : List ℕ) (p : List ℕ × Json) (found : Option Json) (behind b : Bool) → bytes_eq p.0 name ≡ b → (is_some (cond b (Some p.1) found) || behind) ≡ true
-    → (is_some found || (bytes_eq name p.0 || behind)) ≡ true
-found_by name p found behind true e h = or_true (is_some found) (bytes_eq name p.0 || behind) (ap (λ (b : Bool). b || behind) (equal_back p.0 name e))
-found_by name p found behind false e h = either (is_some found) behind (bytes_eq name p.0) h
+found_by : (name : List ℕ) (p : List ℕ × Json) (found : Option Json) (after b : Bool) → bytes_eq p.0 name ≡ b → (is_some (cond b (Some p.1) found) || after) ≡ true
+    → (is_some found || (bytes_eq name p.0 || after)) ≡ true
+found_by name p found after true e h = or_true (is_some found) (bytes_eq name p.0 || after) (ap (λ (b : Bool). b || after) (equal_back p.0 name e))
+found_by name p found after false e h = either (is_some found) after (bytes_eq name p.0) h
 
 found_among : (name : List ℕ) (found : Option Json) (ps : Pairs) → is_some (fold (λ (found : Option Json) (pair : List ℕ × Json). cond (bytes_eq pair.0 name) (Some pair.1) found) found ps) ≡ true
     → (is_some found || among name (map (λ q. q.0) ps)) ≡ true
@@ -81,3 +117,49 @@ pub named_there : (ps : Pairs) (name : List ℕ) → among name (filter (is_ther
 named_there ps name =
     among_kept name (is_there ps) (all_names ps)
     ∙ both_by (is_there ps name) (among name (all_names ps)) (λ h. among_first_come name (map (λ q. q.0) ps) ∙ there_among ps name h)
+
+-- A name that is there has a last pair.
+step_back : (last : Option ℕ) (b : Bool) (x : Json) (found : Option Json)
+    → (is_some last || is_some (cond b (Some x) found)) ≡ (is_some (later_or_here last b) || is_some found)
+step_back (Some i) b x found = refl
+step_back None true x found = refl
+step_back None false x found = refl
+
+pair_found : (name : List ℕ) (found : Option Json) (ps : Pairs)
+    → is_some (fold (λ (found : Option Json) (pair : List ℕ × Json). cond (bytes_eq pair.0 name) (Some pair.1) found) found ps) ≡ (is_some (last_pair name ps) || is_some found)
+pair_found name found [] = refl
+pair_found name found (p ∷ ps) =
+    pair_found name (cond (bytes_eq p.0 name) (Some p.1) found) ps ∙ step_back (last_pair name ps) (bytes_eq p.0 name) p.1 found
+
+or_none : (b : Bool) → (b || false) ≡ true → b ≡ true
+or_none true e = refl
+or_none false e = absurd (cc)
+
+is_some_last : (last : Option ℕ) → is_some last ≡ true → last ≡ Some (unwrap_or last 0)
+is_some_last (Some i) e = refl
+is_some_last None e = absurd (cc)
+
+there_last : (ps : Pairs) (name : List ℕ) → is_there ps name ≡ true → last_pair name ps ≡ Some (unwrap_or (last_pair name ps) 0)
+unfolding member
+there_last ps name h =
+    is_some_last (last_pair name ps) (or_none (is_some (last_pair name ps)) (sym (pair_found name None ps) ∙ some_unless_null (last_value name ps) h))
+
+-- The slots of marked names, and those of the names that are there.
+abbrev slot_of : List ℕ × LastPair → NamedPair
+slot_of e = record { name = e.0; pair = e.1.index }
+
+abbrev pub slots_of : Pairs → Names → List NamedPair
+slots_of ps names = map slot_of (marked (last_pair_of ps) names)
+
+pub names_of_slots : (ps : Pairs) (names : Names) → names_in (slots_of ps names) ≡ names
+names_of_slots ps [] = refl
+names_of_slots ps (x ∷ xs) = ap (λ (zs : Names). x ∷ zs) (names_of_slots ps xs)
+
+slot_kept_by : (ps : Pairs) (x : List ℕ) (b : Bool) (names : Names) → is_there ps x ≡ b → All (IsSlotOf ps) (slots_of ps names) → All (IsSlotOf ps) (slots_of ps (cond b (x ∷ names) names))
+slot_kept_by ps x true names e h =
+    All-cons (IsSlotOf ps) (slot_of (x, last_pair_of ps x)) (slots_of ps names) (record { there = e; last = there_last ps x e }) h
+slot_kept_by ps x false names e h = h
+
+pub slots_kept : (ps : Pairs) (names : Names) → All (IsSlotOf ps) (slots_of ps (filter (is_there ps) names))
+slots_kept ps [] = All-nil (IsSlotOf ps)
+slots_kept ps (x ∷ xs) = slot_kept_by ps x (is_there ps x) (filter (is_there ps) xs) refl (slots_kept ps xs)

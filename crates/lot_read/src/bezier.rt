@@ -1,64 +1,34 @@
 //! The reader of paths.
-ghost use Rattle.std.specs.Prelude.{◌≡◌, [], Some, OnOk};
-ghost use Rattle.lot_read.specs.Outcome.{Gives};
-ghost use Rattle.lot_read.specs.Values.{bezier, bezier_rows, as_many as as_many_in};
+ghost use Rattle.std.specs.Prelude.{◌≡◌, OnOk, Some};
+ghost use Rattle.lot_types.specs.declared.slot.SlotKind.TheVariants as slot_kind;
+ghost use Rattle.lot_read.specs.Bezier.{bezier, bezier_rows, as_many};
+ghost use Rattle.lot_read.specs.Members.{RowGives, SameMembers};
 
-use crate::kind::Flag;
-use crate::list::{LONGEST, ListOf, ValueOrFirst};
-use crate::reader::{Object, Reader, Rows};
-use crate::row::{needed, optional, refuse_under};
+use crate::flag::Flag;
+use crate::list::{ListOf, MAX_LIST_ITEMS};
+use crate::members::{Members, Rows};
+use crate::object::Object;
+use crate::reader::Reader;
+use crate::value_kind::ValueKind;
+use crate::value_or_first::ValueOrFirst;
 use crate::vector::VectorValue;
-use lot_json::{Json, JsonMembers, Pointer};
-use lot_types::{Bezier, FaultCode, Refusal, Seq, Use};
+use lot_json::{Json, Pointer};
+use lot_types::{Bezier, FaultCode, Refusal, Seq, SlotKind, Use};
 
-/// There are as many tangents of this name as vertices, else [`FaultCode::Count`] at their list.
-#[tactic(auto, unfolding(crate::specs::Values::as_many))]
-fn as_many(name: &str, at: &mut Pointer, vertices: usize, tangents: usize) -> Result<(), Refusal>
-    ensures gives { Gives result [] [] (as_many_in name.now at.old (Some vertices) (Some tangents)) }
-    ensures same { OnOk result (tangents ≡ vertices) }
-    ensures at { at.new ≡ at.old }
-{
-    if vertices != tangents {
-        return Err(refuse_under(FaultCode::Count, name, at));
-    }
-    Ok(())
-}
-
-/// The members of a path.
-#[derive(Clone, Copy)]
-struct BezierRows;
-
-const VECTORS: ListOf<VectorValue> = ListOf {
-    most: LONGEST,
-    item: VectorValue,
-};
-
-impl Rows for BezierRows {
-    type Value = Bezier;
-
-    ghost rows = { λ _. bezier_rows };
-
-    #[tactic(auto, using(crate::proofs::Faults::first_of_front, crate::proofs::Lengths::needed_count), unfolding(crate::specs::Values::bezier_rows))]
-    fn rows(
-        &self,
-        at: &mut Pointer,
-        m: &JsonMembers,
-        uses: &mut Seq<Use>,
-    ) -> Result<Bezier, Refusal> {
-        let closed = optional("c", &Flag, false, at, m, uses)?;
-        let v = needed("v", &VECTORS, at, m, uses)?;
-        let i = needed("i", &VECTORS, at, m, uses)?;
-        let o = needed("o", &VECTORS, at, m, uses)?;
-        as_many("i", at, v.items().len(), i.items().len())?;
-        as_many("o", at, v.items().len(), o.items().len())?;
-        Ok(Bezier { closed, v, i, o })
-    }
-}
-
-/// A path of cubic curves: an object with the lists `v`, `i` and `o` of vectors, or a list of which the first item is one.
-/// [`FaultCode::Count`] at `i` or `o` where its length is not that of `v`.
+/// Reads a path of cubic curves: an object, or the first item of a list, which is one. Its members are the flag `c`
+/// and the lists `v`, `i` and `o` of vectors, which have at most [`MAX_LIST_ITEMS`] items each. [`FaultCode::Count`]
+/// is at `i` or `o` where its length is not that of `v`.
 #[derive(Clone, Copy)]
 pub struct BezierValue;
+
+const BEZIER: ValueOrFirst<Object<BezierRows>> = ValueOrFirst {
+    value: Object { rows: BezierRows },
+};
+
+const VECTORS: ListOf<VectorValue> = ListOf {
+    max: MAX_LIST_ITEMS,
+    item: VectorValue,
+};
 
 impl Reader for BezierValue {
     type Value = Bezier;
@@ -66,9 +36,55 @@ impl Reader for BezierValue {
     ghost gives = { λ _. bezier };
 
     fn read(&self, at: &mut Pointer, v: &Json, uses: &mut Seq<Use>) -> Result<Bezier, Refusal> {
-        let reader = ValueOrFirst {
-            value: Object { rows: BezierRows },
-        };
-        reader.read(at, v, uses)
+        BEZIER.read(at, v, uses)
     }
+}
+
+impl ValueKind for BezierValue {
+    ghost kind = { λ _. slot_kind.Bezier };
+
+    fn kind(&self) -> SlotKind {
+        SlotKind::Bezier
+    }
+}
+
+/// Reads the members of a path.
+#[derive(Clone, Copy)]
+struct BezierRows;
+
+impl Rows for BezierRows {
+    type Value = Bezier;
+
+    ghost rows = { λ _. bezier_rows };
+
+    #[tactic(auto, using(crate::proofs::Faults::first_of_prefix, crate::proofs::Lengths::needed_count), unfolding(crate::specs::Bezier::bezier_rows))]
+    fn read_rows(&self, members: &mut Members) -> Result<Bezier, Refusal> {
+        let closed = members.optional("c", &Flag, false)?;
+        let v = members.needed("v", &VECTORS)?;
+        let i = members.needed("i", &VECTORS)?;
+        let o = members.needed("o", &VECTORS)?;
+        refuse_other_count("i", members, v.items().len(), i.items().len())?;
+        refuse_other_count("o", members, v.items().len(), o.items().len())?;
+        Ok(Bezier { closed, v, i, o })
+    }
+}
+
+/// Refuses a list of tangents that has not as many items as that of the vertices: [`FaultCode::Count`] at the member
+/// of this name.
+#[tactic(auto, unfolding(crate::specs::Bezier::as_many))]
+fn refuse_other_count(
+    name: &str,
+    members: &mut Members,
+    vertices: usize,
+    tangents: usize,
+) -> Result<(), Refusal>
+    ensures gives { RowGives result members.old members.new
+        (λ at m. as_many name.now at (Some vertices) (Some tangents)) }
+    ensures equal { OnOk result (tangents ≡ vertices) }
+    ensures same { SameMembers members.old members.new }
+{
+    if vertices != tangents {
+        return Err(members.refusal_at(FaultCode::Count, name));
+    }
+    Ok(())
 }

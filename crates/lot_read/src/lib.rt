@@ -1,32 +1,54 @@
-//! Readers of the values and properties of a document: each answers the value, or the first fault in the order of the
-//! table of members, and not in the order of the text.
+//! Readers of the values and properties of a Lottie document. Each answers the value, or the first fault in the order
+//! of the table of members, which is not the order of the text.
 //!
-//! A table of members is read by a chain of the words [`needed`], [`optional`] and [`maybe`], one for each row, over the
-//! readers of the kinds of values.
-#![tactic(auto, using(crate::proofs::Faults::first_of_front))]
+//! A table of members is read row by row: [`Members::needed`], [`Members::optional`], [`Members::maybe`] and
+//! [`Members::unbuilt`] read one member each, by the [`Reader`] of its kind of value.
+#![tactic(auto, using(crate::proofs::Faults::first_of_prefix))]
 
 mod bezier;
-mod calls;
+mod color;
+mod faultless;
+mod flag;
 mod gradient;
-mod kind;
 mod list;
+mod members;
+mod moment;
 mod number;
+mod object;
 mod position;
 mod property;
 mod reader;
-mod row;
+mod scalar;
+mod single_property;
+mod slot_name;
 mod slot_names;
+mod text;
+mod track;
+mod value_kind;
+mod value_or_first;
 mod vector;
+mod whole;
 
 pub use bezier::BezierValue;
-pub use calls::{read_bezier, read_color, read_gradient, read_scalar, read_vector};
+pub use color::ColorValue;
+pub use faultless::faultless_property_has_value;
+pub use flag::{Flag, Unset};
 pub use gradient::GradientValue;
-pub use kind::{Flag, TextValue, Unset, Whole};
-pub use list::{ListOf, ValueOrFirst};
-pub use number::{AboveZero, AnyNumber, Moment, NotBelowZero};
+pub use list::{ListOf, MAX_LIST_ITEMS};
+pub use members::{Members, Rows};
+pub use moment::Moment;
+pub use number::NumberValue;
+pub use object::Object;
 pub use position::PositionOf;
-pub use property::{Property, SlotName};
-pub use reader::{Object, Reader, Rows};
-pub use row::{maybe, needed, optional, refuse, refuse_under, unbuilt};
+pub use property::Property;
+pub use reader::{Reader, refusal_at};
+pub use scalar::ScalarValue;
+pub use single_property::{read_bezier, read_color, read_gradient, read_scalar, read_vector};
+pub use slot_name::SlotName;
 pub use slot_names::SlotNames;
-pub use vector::{ColorValue, VectorValue};
+pub use text::TextValue;
+pub use track::Absence;
+pub use value_kind::ValueKind;
+pub use value_or_first::ValueOrFirst;
+pub use vector::VectorValue;
+pub use whole::Whole;

@@ -1,32 +1,50 @@
 //! Readers of lists.
-ghost use Rattle.std.specs.Prelude.{◌≡◌, [], length};
+ghost use Rattle.std.specs.Prelude.{◌≡◌};
+ghost use Rattle.lot_read.specs.Findings.{item};
+ghost use Rattle.lot_read.specs.Lists.{each, list};
 ghost use Rattle.lot_read.specs.Outcome.{Gives};
-ghost use Rattle.lot_read.specs.Rows.{each as each_item, list, value_or_first};
 
-use crate::reader::Reader;
-use crate::row::{read_item, refuse};
+use crate::reader::{Reader, refusal_at};
 use lot_json::{Json, Pointer};
 use lot_types::{FaultCode, Refusal, Seq, Use};
 
-/// The most items of a list that is read whole and has no smaller limit of its own.
-pub(crate) const LONGEST: usize = 65_536;
+/// The greatest number of items of a list that is read whole and has no smaller limit of its own.
+pub const MAX_LIST_ITEMS: usize = 65_536;
 
-/// A list that is read whole, of at most so many items, else [`FaultCode::TooMany`].
+/// Reads a whole list, item by item. Any other value is [`FaultCode::Kind`], and a list of more than `max` items is
+/// [`FaultCode::TooMany`].
 #[derive(Clone, Copy)]
 pub struct ListOf<R> {
-    pub most: usize,
+    pub max: usize,
     pub item: R,
 }
 
-/// The items of a list in order.
-#[tactic(auto, using(crate::proofs::Faults::first_of_front), unfolding(crate::specs::Rows::each))]
-fn each<R: Reader>(
+/// Reads the item `v` of this index.
+pub(crate) fn read_item<R: Reader>(
+    i: u64,
+    reader: &R,
+    at: &mut Pointer,
+    v: &Json,
+    uses: &mut Seq<Use>,
+) -> Result<R::Value, Refusal>
+    ensures gives { Gives result uses.old uses.new (R.gives reader.now (item at.old i) v.now) }
+    ensures at { at.new ≡ at.old }
+{
+    at.push_index(i)?;
+    let read = reader.read(at, v, uses);
+    at.pop();
+    read
+}
+
+/// Reads the items in order.
+#[tactic(auto, using(crate::proofs::Faults::first_of_prefix), unfolding(crate::specs::Lists::each))]
+fn read_each<R: Reader>(
     reader: &R,
     at: &mut Pointer,
     items: &[Json],
     uses: &mut Seq<Use>,
 ) -> Result<Seq<R::Value>, Refusal>
-    ensures gives { Gives result uses.old uses.new (each_item (R.gives reader.now) at.old 0 items.now) }
+    ensures gives { Gives result uses.old uses.new (each (R.gives reader.now) at.old 0 items.now) }
     ensures at { at.new ≡ at.old }
 {
     let mut made = Seq::new(at.allocator());
@@ -40,9 +58,9 @@ fn each<R: Reader>(
 impl<R: Reader> Reader for ListOf<R> {
     type Value = Seq<R::Value>;
 
-    ghost gives = { λ l. list l.most (R.gives l.item) };
+    ghost gives = { λ l. list l.max (R.gives l.item) };
 
-    #[tactic(auto, using(crate::proofs::Faults::first_of_front), unfolding(crate::specs::Rows::list))]
+    #[tactic(auto, using(crate::proofs::Faults::first_of_prefix), unfolding(crate::specs::Lists::list))]
     fn read(
         &self,
         at: &mut Pointer,
@@ -51,35 +69,12 @@ impl<R: Reader> Reader for ListOf<R> {
     ) -> Result<Seq<R::Value>, Refusal> {
         match v {
             Json::Items(items) => {
-                if self.most < items.items().len() {
-                    return Err(refuse(FaultCode::TooMany, at));
+                if self.max < items.items().len() {
+                    return Err(refusal_at(FaultCode::TooMany, at));
                 }
-                each(&self.item, at, items.items(), uses)
+                read_each(&self.item, at, items.items(), uses)
             }
-            _ => Err(refuse(FaultCode::Kind, at)),
-        }
-    }
-}
-
-/// A value, or a list of which the first item is the value. A list without items is [`FaultCode::Count`].
-#[derive(Clone, Copy)]
-pub struct ValueOrFirst<R> {
-    pub value: R,
-}
-
-impl<R: Reader> Reader for ValueOrFirst<R> {
-    type Value = R::Value;
-
-    ghost gives = { λ f. value_or_first (R.gives f.value) };
-
-    #[tactic(auto, using(crate::proofs::Faults::first_of_front), unfolding(crate::specs::Rows::value_or_first))]
-    fn read(&self, at: &mut Pointer, v: &Json, uses: &mut Seq<Use>) -> Result<R::Value, Refusal> {
-        match v {
-            Json::Items(items) => match items.items() {
-                [first, ..] => read_item(0, &self.value, at, first, uses),
-                [] => Err(refuse(FaultCode::Count, at)),
-            },
-            _ => self.value.read(at, v, uses),
+            _ => Err(refusal_at(FaultCode::Kind, at)),
         }
     }
 }

@@ -1,82 +1,45 @@
-//! Readers of numbers.
-ghost use Rattle.lot_read.specs.Kinds.{any, not_below_zero, above_zero, number};
+//! The reader of numbers.
+ghost use Rattle.std.specs.Prelude.{◌≡◌};
+ghost use Rattle.lot_read.specs.Number.{number, range_of};
 
-use crate::reader::Reader;
-use crate::row::refuse;
+use crate::reader::{Reader, refusal_at};
 use lot_json::{Json, Number, Pointer};
-use lot_types::{FaultCode, Fx, Refusal, Seq, Time, Use};
+use lot_types::{FaultCode, Fx, Refusal, Seq, Use};
 
-/// Any number. Another value is [`FaultCode::Kind`], a number beyond the range of [`Fx`] is [`FaultCode::Range`].
+/// Reads a number of a range. Any other value is [`FaultCode::Kind`], and a number out of the range, or beyond that of
+/// [`Fx`], is [`FaultCode::Range`].
 #[derive(Clone, Copy)]
-pub struct AnyNumber;
+pub enum NumberValue {
+    Any,
+    /// A number that is 0 or above.
+    NotBelowZero,
+    AboveZero,
+}
 
-impl Reader for AnyNumber {
-    type Value = Fx;
-
-    ghost gives = { λ _. number any };
-
-    #[tactic(auto, unfolding(crate::specs::Kinds::number))]
-    fn read(&self, at: &mut Pointer, v: &Json, uses: &mut Seq<Use>) -> Result<Fx, Refusal> {
-        match v {
-            Json::Number(Number::Micro(x)) => Ok(*x),
-            Json::Number(Number::Beyond) => Err(refuse(FaultCode::Range, at)),
-            _ => Err(refuse(FaultCode::Kind, at)),
+impl NumberValue {
+    /// Whether a number is in the range.
+    fn contains(self, x: Fx) -> bool
+        ensures { result ≡ range_of self x }
+    {
+        match self {
+            NumberValue::Any => true,
+            NumberValue::NotBelowZero => 0 <= x.get(),
+            NumberValue::AboveZero => 0 < x.get(),
         }
     }
 }
 
-/// A number that is 0 or above, else [`FaultCode::Range`].
-#[derive(Clone, Copy)]
-pub struct NotBelowZero;
-
-impl Reader for NotBelowZero {
+impl Reader for NumberValue {
     type Value = Fx;
 
-    ghost gives = { λ _. number not_below_zero };
+    ghost gives = { λ n. number (range_of n) };
 
-    #[tactic(auto, unfolding(crate::specs::Kinds::number))]
+    #[tactic(auto, unfolding(crate::specs::Number::number))]
     fn read(&self, at: &mut Pointer, v: &Json, uses: &mut Seq<Use>) -> Result<Fx, Refusal> {
         match v {
-            Json::Number(Number::Micro(x)) if 0 <= x.get() => Ok(*x),
-            Json::Number(_) => Err(refuse(FaultCode::Range, at)),
-            _ => Err(refuse(FaultCode::Kind, at)),
-        }
-    }
-}
-
-/// A number above 0, else [`FaultCode::Range`].
-#[derive(Clone, Copy)]
-pub struct AboveZero;
-
-impl Reader for AboveZero {
-    type Value = Fx;
-
-    ghost gives = { λ _. number above_zero };
-
-    #[tactic(auto, unfolding(crate::specs::Kinds::number))]
-    fn read(&self, at: &mut Pointer, v: &Json, uses: &mut Seq<Use>) -> Result<Fx, Refusal> {
-        match v {
-            Json::Number(Number::Micro(x)) if 0 < x.get() => Ok(*x),
-            Json::Number(_) => Err(refuse(FaultCode::Range, at)),
-            _ => Err(refuse(FaultCode::Kind, at)),
-        }
-    }
-}
-
-/// A moment: any number, in millionths of a frame.
-#[derive(Clone, Copy)]
-pub struct Moment;
-
-impl Reader for Moment {
-    type Value = Time;
-
-    ghost gives = { λ _. number any };
-
-    #[tactic(auto, unfolding(crate::specs::Kinds::number))]
-    fn read(&self, at: &mut Pointer, v: &Json, uses: &mut Seq<Use>) -> Result<Time, Refusal> {
-        match Time::new(AnyNumber.read(at, v, uses)?.get()) {
-            Some(t) => Ok(t),
-            None => Err(refuse(FaultCode::Range, at)),
+            Json::Number(Number::Micro(x)) if self.contains(*x) => Ok(*x),
+            Json::Number(_) => Err(refusal_at(FaultCode::Range, at)),
+            _ => Err(refusal_at(FaultCode::Kind, at)),
         }
     }
 }

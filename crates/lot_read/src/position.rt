@@ -1,17 +1,16 @@
 //! The reader of positions.
-ghost use Rattle.lot_read.specs.Property.{position_rows};
+ghost use Rattle.lot_read.specs.Position.{position_rows};
+ghost use Rattle.lot_read.specs.SlotNames.{names_in};
 
-use crate::kind::Flag;
+use crate::flag::Flag;
+use crate::members::{Members, Rows};
 use crate::property::Property;
-use crate::reader::Rows;
-use crate::row::{optional, refuse_under};
 use crate::slot_names::SlotNames;
 use crate::vector::VectorValue;
-use lot_json::{JsonMembers, Pointer};
-use lot_types::{FaultCode, Position, Refusal, Seq, SlotKind, Use};
+use lot_types::{FaultCode, Position, Refusal};
 
-/// The members of a position: a property of vectors. One that is split into its coordinates is
-/// [`FaultCode::Unsupported`] at `s`.
+/// Reads a position: a property of vectors. One that is split into its coordinates is [`FaultCode::Unsupported`] at
+/// `s`.
 #[derive(Clone, Copy)]
 pub struct PositionOf<'a> {
     pub names: &'a SlotNames,
@@ -20,24 +19,18 @@ pub struct PositionOf<'a> {
 impl<'a> Rows for PositionOf<'a> {
     type Value = Position;
 
-    ghost rows = { λ p. position_rows p.names.now };
+    ghost rows = { λ p. position_rows (names_in p.names.now) };
 
-    #[tactic(auto, using(crate::proofs::Faults::first_of_front), unfolding(crate::specs::Property::position_rows))]
-    fn rows(
-        &self,
-        at: &mut Pointer,
-        m: &JsonMembers,
-        uses: &mut Seq<Use>,
-    ) -> Result<Position, Refusal> {
-        if optional("s", &Flag, false, at, m, uses)? {
-            return Err(refuse_under(FaultCode::Unsupported, "s", at));
+    #[tactic(auto, using(crate::proofs::Faults::first_of_prefix), unfolding(crate::specs::Position::position_rows))]
+    fn read_rows(&self, members: &mut Members) -> Result<Position, Refusal> {
+        if members.optional("s", &Flag, false)? {
+            return Err(members.refusal_at(FaultCode::Unsupported, "s"));
         }
         let place = Property {
-            kind: SlotKind::Vector,
             names: self.names,
             value: VectorValue,
         };
-        let p = place.rows(at, m, uses)?;
+        let p = place.read_rows(members)?;
         Ok(Position::Whole(p))
     }
 }

@@ -10,6 +10,8 @@ mod first_frame;
 #[cfg(test)]
 mod in_memory;
 #[cfg(test)]
+mod long_numbers;
+#[cfg(test)]
 mod number_tokens;
 #[cfg(test)]
 mod one_file;
@@ -17,6 +19,8 @@ mod one_file;
 mod outside_fails;
 #[cfg(test)]
 mod properties;
+#[cfg(test)]
+mod real_files;
 #[cfg(test)]
 mod short_sink;
 #[cfg(test)]

@@ -2,7 +2,7 @@
 use lot_json::{Number, token};
 use std::test::Fail;
 
-/// The millionths of a number, with what stands for one beyond the range.
+/// The millionths of a number, with a value in place of one beyond the range.
 fn millionths(n: Number) -> i64 {
     match n {
         Number::Micro(x) => x.get(),
@@ -10,7 +10,7 @@ fn millionths(n: Number) -> i64 {
     }
 }
 
-/// The millionths of a token, with what stands for no token.
+/// The millionths of a token, with a value in place of no token.
 fn millionths_of(text: &str) -> i64 {
     let Some(n) = token::number(text.as_bytes()) else {
         return NO_TOKEN;

@@ -1,9 +1,11 @@
-ghost use Rattle.std.specs.Prelude.{◌≤◌, length, None, ⊤};
+//! A folder of one content, whose reads can fail.
+ghost use Rattle.std.specs.Prelude.{◌≤◌, length, ⊤};
+ghost use Rattle.lot_play.specs.RealFolder.{no_content};
 
-use lot_play::outside::Folder;
+use lot_play::Folder;
 use lot_types::Failed;
 
-/// A folder whose every name has one content, read in pieces, and of which one read fails.
+/// A folder whose every name has one content, which it gives in pieces of a greatest length, and of which one read fails.
 #[derive(Drop)]
 pub struct OneFile<'a> {
     content: &'a [u8],
@@ -15,12 +17,12 @@ pub struct OneFile<'a> {
 }
 
 impl<'a> OneFile<'a> {
-    /// A folder of which no read fails.
+    /// Makes a folder of which no read fails.
     pub fn new(content: &'a [u8], piece: usize) -> OneFile<'a> {
         OneFile::failing(content, piece, 0)
     }
 
-    /// A folder of which the read of this number fails, from 1 on.
+    /// Makes a folder of which the read of this number fails, counted from 1.
     pub fn failing(content: &'a [u8], piece: usize, fails_at: u64) -> OneFile<'a> {
         OneFile {
             content,
@@ -33,7 +35,7 @@ impl<'a> OneFile<'a> {
     }
 }
 
-fn put_piece(content: &[u8], from: u64, piece: usize, buf: &mut [u8]) -> usize
+fn copy_piece(content: &[u8], from: u64, piece: usize, buf: &mut [u8]) -> usize
     ensures { result ≤ length buf.old }
 {
     let rest = &content[content.len().min(from as usize)..];
@@ -43,13 +45,9 @@ fn put_piece(content: &[u8], from: u64, piece: usize, buf: &mut [u8]) -> usize
 }
 
 impl<'a> Folder for OneFile<'a> {
-    ghost faults = { λ f. f.faults };
-
-    ghost given = { λ f. f.given };
+    ghost state = { λ f. record { content = no_content; faults = f.faults; given = f.given } };
 
     ghost serves = { λ _ _. ⊤ };
-
-    ghost told = { λ _ _. None };
 
     fn read(&mut self, _name: &str, from: u64, buf: &mut [u8]) -> Result<usize, Failed> {
         self.reads = self.reads.saturating_add(1);
@@ -57,7 +55,7 @@ impl<'a> Folder for OneFile<'a> {
             self.faults = self.faults.saturating_add(1);
             return Err(Failed);
         }
-        let n = put_piece(self.content, from, self.piece, buf);
+        let n = copy_piece(self.content, from, self.piece, buf);
         self.given = self.given.saturating_add(n as u64);
         Ok(n)
     }

@@ -24,7 +24,7 @@ fn each_failing_read_ends_the_run_with_no_bytes(rt: HostRuntime) -> Result<(), F
 
 /// The frame has 163 bytes: five writes of at most forty bytes.
 #[test]
-fn each_failing_write_leaves_the_front_of_the_frame(rt: HostRuntime) -> Result<(), Fail> {
+fn each_failing_write_leaves_a_prefix_of_the_frame(rt: HostRuntime) -> Result<(), Fail> {
     let alloc = rt.alloc();
     for n in 1..6 {
         let mut folder = OneFile::new(SOLID.as_bytes(), 4096);
@@ -38,32 +38,28 @@ fn each_failing_write_leaves_the_front_of_the_frame(rt: HostRuntime) -> Result<(
     Ok(())
 }
 
-/// Runs the program on a document of so many spaces.
+/// Runs the program on a document of `count` spaces.
 fn run_on_spaces(
     alloc: Global,
-    spaces: usize,
+    count: usize,
     piece: usize,
     sink: &mut ShortSink,
 ) -> Result<Status, Memory> {
     let mut document = Vec::new(alloc);
-    document.resize(spaces, b' ')?;
+    document.resize(count, b' ')?;
     let mut folder = OneFile::new(document.as_slice(), piece);
     run_on(alloc, &["frame", "-", "0"], &mut folder, sink)
 }
 
 #[test]
-fn a_document_may_have_so_many_bytes_and_no_more(rt: HostRuntime) -> Result<(), Fail> {
+fn a_document_has_at_most_16_777_216_bytes(rt: HostRuntime) -> Result<(), Fail> {
     let alloc = rt.alloc();
     let mut sink = ShortSink::new(alloc, 4096);
-    assert_eq!(rt;
-        run_on_spaces(alloc, 16_777_217, 65536, &mut sink)?,
-        Status::TooLong
-    );
+    let longer = run_on_spaces(alloc, 16_777_217, 65536, &mut sink)?;
+    assert_eq!(rt; longer, Status::TooLong);
     assert_eq!(rt; sink.writes, 0);
-    assert_eq!(rt;
-        run_on_spaces(alloc, 16_777_216, 1_000_000, &mut sink)?,
-        Status::Refused
-    );
-    assert!(rt; sink.taken.as_slice() == "syntax 16777216\n".as_bytes());
+    let longest = run_on_spaces(alloc, 16_777_216, 1_000_000, &mut sink)?;
+    assert_eq!(rt; longest, Status::Refused);
+    assert_eq!(rt; sink.text(), "syntax 16777216\n");
     Ok(())
 }

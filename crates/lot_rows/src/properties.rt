@@ -5,7 +5,7 @@ use lot_types::{FaultCode, Fx, Prop, Refusal, Track};
 use std::alloc::Global;
 use std::test::Fail;
 
-/// A fault, and what stands for want of memory.
+/// The code of a fault; `None` for a value and for want of memory.
 fn code<T: Drop>(read: Result<T, Refusal>) -> Option<FaultCode> {
     match read {
         Err(Refusal::Fault(fault)) => Some(fault.code),
@@ -13,7 +13,7 @@ fn code<T: Drop>(read: Result<T, Refusal>) -> Option<FaultCode> {
     }
 }
 
-/// The millionths of a scalar that stands still, and what stands for anything else.
+/// The millionths of a constant scalar, with a value in place of anything else.
 fn millionths(read: &Result<Prop<Fx>, Refusal>) -> i64 {
     match read {
         Ok(Prop::Own(Track::Still(x))) => x.get(),
@@ -31,12 +31,12 @@ fn names_of(alloc: Global, slots: &Json) -> Result<SlotNames, Fail> {
 #[test]
 fn properties_are_read_or_refused(rt: HostRuntime) -> Result<(), Fail> {
     let alloc = rt.alloc();
-    let slots = parse(alloc, b"{\"a\":{},\"b\":{},\"a\":{}}")?;
+    let slots = parse(alloc, br#"{"a":{},"b":{},"a":{}}"#)?;
     let names = names_of(alloc, &slots)?;
     assert_eq!(rt; names.find(b"b"), Some(1));
     assert_eq!(rt; names.find(b"c"), None);
     let mut at = Pointer::new(alloc)?;
-    let scalar = parse(alloc, b"{\"k\":[0.5,\"x\"]}")?;
+    let scalar = parse(alloc, br#"{"k":[0.5,"x"]}"#)?;
     assert_eq!(rt;
         millionths(&read_scalar(alloc, &mut at, &scalar, &names)),
         500_000
@@ -57,7 +57,7 @@ fn properties_are_read_or_refused(rt: HostRuntime) -> Result<(), Fail> {
         code(read_gradient(alloc, &mut at, &scalar, &names, 1)),
         Some(FaultCode::Kind)
     );
-    let path = parse(alloc, b"{\"k\":{\"v\":[[0,0]],\"i\":[[0,0]],\"o\":[]}}")?;
+    let path = parse(alloc, br#"{"k":{"v":[[0,0]],"i":[[0,0]],"o":[]}}"#)?;
     assert_eq!(rt;
         code(read_bezier(alloc, &mut at, &path, &names)),
         Some(FaultCode::Count)
@@ -69,10 +69,10 @@ fn properties_are_read_or_refused(rt: HostRuntime) -> Result<(), Fail> {
 fn pointers_are_escaped(rt: HostRuntime) -> Result<(), Fail> {
     let alloc = rt.alloc();
     let mut at = Pointer::new(alloc)?;
-    assert!(rt; at.text()?.as_str() == "");
-    at.push_name("a/b~c")?;
+    assert_eq!(rt; at.text()?.as_str(), "");
+    at.push_name(b"a/b~c")?;
     at.push_index(12)?;
-    at.push_name("")?;
-    assert!(rt; at.text()?.as_str() == "/a~1b~0c/12/");
+    at.push_name(b"")?;
+    assert_eq!(rt; at.text()?.as_str(), "/a~1b~0c/12/");
     Ok(())
 }

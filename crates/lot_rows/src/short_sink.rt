@@ -1,14 +1,14 @@
+//! A sink that takes short pieces, whose writes can fail, and runs of the player on it.
 ghost use Rattle.std.specs.Prelude.{◌≡◌, ◌^◌, ◌<◌, ◌≤◌, Some};
 
 use crate::one_file::OneFile;
-use lot_play::outside::{Sink, SinkRefusal};
-use lot_play::{Status, run};
+use lot_play::{Sink, SinkRefusal, Status, run};
 use lot_types::{Bytes, Memory, Seq, Steps, Text};
 use std::alloc::Global;
 use std::marker::Brand;
 use std::sync::ledger::{Blank, Ledger};
 
-/// A sink that takes at most so many bytes a write, and of which one write fails.
+/// A sink that takes at most a given number of bytes a write, and of which one write fails.
 #[derive(Drop)]
 pub struct ShortSink {
     pub taken: Bytes,
@@ -20,14 +20,14 @@ pub struct ShortSink {
 }
 
 impl ShortSink {
-    /// A sink of which no write fails.
+    /// Makes a sink of which no write fails.
     pub fn new(alloc: Global, most: usize) -> ShortSink
         requires { 0 < most }
     {
         ShortSink::failing(alloc, most, 0)
     }
 
-    /// A sink of which the write of this number fails, from 1 on.
+    /// Makes a sink of which the write of this number fails, counted from 1.
     pub fn failing(alloc: Global, most: usize, fails_at: u64) -> ShortSink
         requires { 0 < most }
     {
@@ -39,12 +39,18 @@ impl ShortSink {
             faults: 0,
         }
     }
+
+    /// Returns what was taken, as a text.
+    pub fn text(&self) -> &str {
+        match str::from_utf8(self.taken.as_slice()) {
+            Ok(text) => text,
+            Err(_) => "bytes that are no text",
+        }
+    }
 }
 
 impl Sink for ShortSink {
-    ghost faults = { λ s. s.faults };
-
-    ghost held = { λ s. Some s.taken };
+    ghost state = { λ s. record { taken = Some s.taken; faults = s.faults } };
 
     fn write(&mut self, bytes: &[u8]) -> Result<usize, SinkRefusal> {
         self.writes = self.writes.saturating_add(1);
@@ -58,18 +64,18 @@ impl Sink for ShortSink {
     }
 }
 
-fn words_of(alloc: Global, words: &[&str]) -> Result<Seq<Text>, Memory> {
-    let mut made = Seq::new(alloc);
-    for word in words {
-        made.push(Text::of(alloc, word)?)?;
+fn list_of(alloc: Global, arguments: &[&str]) -> Result<Seq<Text>, Memory> {
+    let mut list = Seq::new(alloc);
+    for argument in arguments {
+        list.push(Text::of(alloc, argument)?)?;
     }
-    Ok(made)
+    Ok(list)
 }
 
 fn run_counting<L: Ledger>(
     blank: Blank,
     alloc: Global,
-    words: &Seq<Text>,
+    arguments: &Seq<Text>,
     folder: &mut OneFile<'_>,
     out: &mut ShortSink,
 ) -> Status
@@ -78,16 +84,16 @@ fn run_counting<L: Ledger>(
     requires shared { 0 < L.parts }
 {
     let mut steps = Steps::<L>::new(blank);
-    run(alloc, words, folder, out, &mut steps)
+    run(alloc, arguments, folder, out, &mut steps)
 }
 
-/// Runs the player on words.
+/// Runs the player on its arguments.
 pub fn run_on(
     alloc: Global,
-    words: &[&str],
+    arguments: &[&str],
     folder: &mut OneFile<'_>,
     out: &mut ShortSink,
 ) -> Result<Status, Memory> {
-    let words = words_of(alloc, words)?;
-    Ok(run_counting::<Brand>(Blank::new(1), alloc, &words, folder, out))
+    let arguments = list_of(alloc, arguments)?;
+    Ok(run_counting::<Brand>(Blank::new(1), alloc, &arguments, folder, out))
 }

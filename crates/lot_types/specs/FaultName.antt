@@ -1,4 +1,4 @@
--- The names by which faults are printed. They are this project's own.
+-- The names by which the program prints faults. They are this project's own.
 use Rattle.std.specs.Prelude.{ℕ, List, codes}
 use Rattle.lot_types.specs.declared.fault.FaultCode.{FaultCode}
 use Rattle.lot_types.specs.declared.fault.FaultCode.TheVariants as fault

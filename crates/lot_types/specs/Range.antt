@@ -1,4 +1,4 @@
--- The range of every kept and evaluated number: minus ten million to ten million, in millionths.
+-- The range of every kept and every evaluated number: ten million either way, in millionths. It is this project's own.
 use Rattle.std.specs.Prelude.{ℤ, ◌≤◌, ◌^◌, unsigned_abs}
 
 -- A number of millionths is in range where its magnitude is at most 10^13.

@@ -1,10 +1,12 @@
+//! Lists of bytes.
+
 ghost use Rattle.std.specs.Prelude.{◌≡◌, [], ◌∷◌, ◌++◌, OnOk, OnErr};
 
 use crate::{Duplicate, Memory};
 use std::alloc::Global;
 use std::marker::Model;
 
-/// A list of bytes that keeps its allocator.
+/// A list of bytes that keeps its allocator. Contracts see it as the list of its bytes.
 #[derive(Drop)]
 pub struct Bytes {
     bytes: Vec<u8>,
@@ -28,7 +30,7 @@ impl Bytes {
         }
     }
 
-    /// Puts bytes at the end. Where there is no memory the list stays as it was.
+    /// Puts bytes at the end. Want of memory is the one refusal; the list is then unchanged.
     pub fn append(&mut self, b: &[u8]) -> Result<(), Memory>
         ensures ok { OnOk result (self.new ≡ self.old ++ b.now) }
         ensures err { OnErr result (self.new ≡ self.old) }
@@ -37,7 +39,7 @@ impl Bytes {
         Ok(())
     }
 
-    /// Lends the bytes in order.
+    /// The bytes in order.
     pub fn as_slice(&self) -> &[u8]
         ensures { result.now ≡ self.now }
     {

@@ -1,11 +1,13 @@
+//! Numbers.
+
 ghost use Rattle.std.specs.Prelude.{◌≡◌, ◌↔◌, IsSome, IfSome};
 ghost use Rattle.lot_types.specs.Range.{InRange};
 
 use crate::range::is_in_range;
 use std::marker::Model;
 
-/// A number in millionths: of a pixel, of a degree, of a per cent, or of one. It is from -10^13 to 10^13, that is
-/// from minus ten million to ten million.
+/// A number in millionths: of a pixel, a degree, a per cent, or of one. It is from -10^13 to 10^13, ten million either
+/// way, which is this project's own limit.
 #[derive(Clone, Copy, Debug, PartialEq, Eq)]
 pub struct Fx {
     raw: i64,
@@ -31,7 +33,7 @@ impl Fx {
     /// The number 1.
     pub const ONE: Fx = Fx { raw: 1_000_000 };
 
-    /// The number of this many millionths. `None` exactly where it is out of range.
+    /// The number of `v` millionths. `None` exactly where `v` is below -10^13 or above 10^13.
     pub fn new(v: i64) -> Option<Fx>
         ensures some { IsSome result ↔ InRange v }
         ensures value { IfSome result (λ x. x ≡ v) }
@@ -43,7 +45,7 @@ impl Fx {
         }
     }
 
-    /// How many millionths.
+    /// The number of millionths, from -10^13 to 10^13.
     pub fn get(self) -> i64
         ensures value { result ≡ self }
         ensures range { InRange result }

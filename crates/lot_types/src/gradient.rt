@@ -1,12 +1,16 @@
-use crate::{Fx, Seq};
+//! The colors of a gradient.
+
+use crate::{Duplicate, Fx, Memory, Seq};
 use std::marker::Model;
 
-/// The colours along a gradient, and its opacities, in millionths. `flat` has four numbers for each of the `stops`, its
-/// offset and its red, green and blue; behind all of these each two numbers are an offset and an opacity. There is at
-/// least one stop.
+/// The colors and opacities along a gradient, after the Lottie Specification 1.0, "Gradient". There is at least one
+/// stop.
 #[derive(Drop)]
 pub struct Gradient {
+    /// How many stops of color it has.
     pub stops: u32,
+    /// Four numbers for each stop of color, its offset and its red, green and blue, and after all of these two for each
+    /// stop of opacity, its offset and its opacity. All of them are in millionths: 0 is none, and 10^6 all.
     pub flat: Seq<Fx>,
 }
 
@@ -19,4 +23,14 @@ impl Model for Gradient {
     ghost view = { λ g. record { stops = g.stops; flat = g.flat } };
 
     ghost invariant = { λ g. HasStops g.stops (length g.flat) };
+}
+
+impl Duplicate for Gradient {
+    fn copy(&self) -> Result<Gradient, Memory> {
+        let flat = self.flat.copy()?;
+        Ok(Gradient {
+            stops: self.stops,
+            flat,
+        })
+    }
 }

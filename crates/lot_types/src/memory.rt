@@ -1,7 +1,9 @@
+//! Want of memory.
+
 use std::alloc::{AllocError, AllocFailed};
 use thiserror::Error;
 
-/// Want of memory. It may come in place of any other answer of a call that takes memory.
+/// Want of memory: the refusal that may come in place of any other answer of a call that takes memory.
 #[derive(Clone, Copy, Debug, PartialEq, Eq, Error)]
 #[error("out of memory")]
 pub struct Memory;

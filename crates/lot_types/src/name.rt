@@ -1,10 +1,12 @@
+//! Names.
+
 ghost use Rattle.std.specs.Prelude.{◌≡◌, IfOk};
 
 use crate::{Duplicate, Memory};
 use std::alloc::Global;
 use std::marker::Model;
 
-/// The name of an asset or a slot: a text in UTF-8, compared byte by byte.
+/// The name of an asset or a slot: a text in UTF-8, compared byte by byte. Contracts see it as the list of its bytes.
 #[derive(Drop)]
 pub struct Name {
     text: String,
@@ -19,7 +21,7 @@ impl Model for Name {
 }
 
 impl Name {
-    /// A copy of a name.
+    /// A copy of a name. Want of memory is the one refusal.
     pub fn of(alloc: Global, s: &str) -> Result<Name, Memory>
         ensures { IfOk result (λ made. made ≡ s.now) }
     {
@@ -27,7 +29,7 @@ impl Name {
         Ok(Name { text })
     }
 
-    /// Lends the name.
+    /// The name.
     pub fn as_str(&self) -> &str
         ensures { result.now ≡ self.now }
     {

@@ -1,6 +1,9 @@
+//! Points.
+
 use crate::Fx;
 
-/// A place, or a way, in the plane. `x` points to the right and `y` down, both in millionths of a pixel.
+/// A position, an offset or a size in the plane, in millionths of a pixel, or a scale, in millionths of a per cent. `x`
+/// points to the right and `y` down.
 #[derive(Clone, Copy)]
 pub struct Point {
     pub x: Fx,

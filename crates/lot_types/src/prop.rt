@@ -1,28 +1,57 @@
-use crate::{Fx, Key, Point, Seq};
+//! Properties of a document.
 
-/// What a property is over time.
+use crate::{Duplicate, Fx, Keys, Memory, Point};
+
+/// The value of a property over time.
 #[derive(Drop)]
 pub enum Track<T> {
-    /// It stands still.
+    /// One value at all times.
     Still(T),
-    /// It moves along keyframes. There is at least one, and their times do not fall.
-    Moving(Seq<Key<T>>),
+    /// Values at the times of keyframes.
+    Moving(Keys<T>),
 }
 
-/// A property of a document.
+/// A property of a document, after the Lottie Specification 1.0, "Properties".
 #[derive(Drop)]
 pub enum Prop<T> {
-    /// Its own value.
+    /// A value of its own.
     Own(Track<T>),
-    /// The value of the slot of this number.
+    /// The value of the slot of this number, from 0.
     Slot(u32),
 }
 
-/// Where something stands.
+/// A position, in millionths of a pixel, after the Lottie Specification 1.0, "Split Position".
 #[derive(Drop)]
 pub enum Position {
     /// One property for both coordinates.
     Whole(Prop<Point>),
-    /// A property each for `x` and `y`.
+    /// A property for `x` and one for `y`.
     Split(Prop<Fx>, Prop<Fx>),
+}
+
+impl<T: Duplicate> Duplicate for Track<T> {
+    fn copy(&self) -> Result<Track<T>, Memory> {
+        match self {
+            Track::Still(value) => Ok(Track::Still(value.copy()?)),
+            Track::Moving(keys) => Ok(Track::Moving(keys.copy()?)),
+        }
+    }
+}
+
+impl<T: Duplicate> Duplicate for Prop<T> {
+    fn copy(&self) -> Result<Prop<T>, Memory> {
+        match self {
+            Prop::Own(track) => Ok(Prop::Own(track.copy()?)),
+            Prop::Slot(slot) => Ok(Prop::Slot(*slot)),
+        }
+    }
+}
+
+impl Duplicate for Position {
+    fn copy(&self) -> Result<Position, Memory> {
+        match self {
+            Position::Whole(p) => Ok(Position::Whole(p.copy()?)),
+            Position::Split(x, y) => Ok(Position::Split(x.copy()?, y.copy()?)),
+        }
+    }
 }

@@ -1,3 +1,5 @@
+//! Refusals of readers.
+
 ghost use Rattle.std.specs.Prelude.{◌≡◌};
 ghost use Rattle.lot_types.specs.declared.refusal.Refusal.TheVariants as refusal;
 

@@ -1,4 +1,6 @@
-/// An sRGB colour of eight bits a component, without opacity.
+//! Colors of a frame.
+
+/// An sRGB color of eight bits a component, without opacity.
 #[derive(Clone, Copy)]
 pub struct Rgb {
     pub r: u8,

@@ -1,10 +1,12 @@
-ghost use Rattle.std.specs.Prelude.{◌≡◌, [], ◌∷◌, ◌++◌, MatchOption, OnOk, OnErr};
+//! Lists.
+
+ghost use Rattle.std.specs.Prelude.{◌≡◌, [], ◌∷◌, ◌++◌, IfNone, IfSome, OnOk, OnErr};
 
 use crate::{Duplicate, Memory};
 use std::alloc::Global;
 use std::marker::Model;
 
-/// A list that keeps its allocator. Contracts see it as the list of its items, so that a copy equals what it copies.
+/// A list that keeps its allocator. Contracts see it as the list of its items, so that a copy equals its source.
 #[derive(Drop)]
 pub struct Seq<T> {
     items: Vec<T>,
@@ -31,23 +33,30 @@ impl<T> Seq<T> {
         }
     }
 
-    /// Lends the items in order.
+    /// The items in order.
     pub fn items(&self) -> &[T]
         ensures { result.now ≡ self.now }
     {
         self.items.as_slice()
     }
 
-    /// Takes the last item away, if there is one.
+    /// The allocator of its items.
+    pub fn allocator(&self) -> Global {
+        *self.items.allocator()
+    }
+
+    /// Takes the last item away and returns it. `None` exactly where the list is empty.
     pub fn pop(&mut self) -> Option<T>
-        ensures { MatchOption result ((self.old ≡ []) × (self.new ≡ [])) (λ last. self.old ≡ self.new ++ last ∷ []) }
+        ensures none { IfNone result (self.old ≡ []) }
+        ensures unchanged { IfNone result (self.new ≡ []) }
+        ensures last { IfSome result (λ last. self.old ≡ self.new ++ last ∷ []) }
     {
         self.items.pop()
     }
 }
 
 impl<T: Drop> Seq<T> {
-    /// Puts an item at the end. Where there is no memory the list stays as it was and the item is dropped.
+    /// Puts an item at the end. Want of memory is the one refusal; the list is then unchanged, and the item is dropped.
     pub fn push(&mut self, x: T) -> Result<(), Memory>
         ensures ok { OnOk result (self.new ≡ self.old ++ x ∷ []) }
         ensures err { OnErr result (self.new ≡ self.old) }

@@ -1,9 +1,12 @@
+//! The counter of evaluated layers.
+
 ghost use Rattle.std.specs.Prelude.{◌≡◌, ◌+◌, ◌<◌};
 
 use std::marker::Model;
 use std::sync::ledger::{Blank, Book, Ledger, Share};
 
-/// How many layers were evaluated. It takes no bytes when the program runs, and only `tick` changes it.
+/// How many layers were evaluated. It is known to the proofs alone and takes no bytes when the program runs. Contracts
+/// see it as a number, which only [`tick`](Steps::tick) changes.
 #[derive(Drop)]
 pub struct Steps<L: Ledger> {
     book: Book<L>,

@@ -1,11 +1,13 @@
+//! Texts.
+
 ghost use Rattle.std.specs.Prelude.{◌≡◌, [], ◌∷◌, ◌++◌, IfOk, OnOk, OnErr, encode_utf8};
 
 use crate::{Duplicate, Memory};
 use std::alloc::Global;
 use std::marker::Model;
 
-/// How many bytes a text asks for at least where a character finds it full: the allocator gives out no fewer.
-const LEAST: usize = 24;
+/// How many bytes a full text asks for where a character is put at its end: the allocator gives no fewer.
+const MIN_GROWTH_BYTES: usize = 24;
 
 /// A text in UTF-8 that keeps its allocator. Contracts see it as the list of its bytes.
 #[derive(Debug, Drop)]
@@ -31,7 +33,7 @@ impl Text {
         }
     }
 
-    /// A copy of a text.
+    /// A copy of a text. Want of memory is the one refusal.
     pub fn of(alloc: Global, s: &str) -> Result<Text, Memory>
         ensures { IfOk result (λ made. made ≡ s.now) }
     {
@@ -39,19 +41,19 @@ impl Text {
         Ok(Text { text })
     }
 
-    /// Puts a character at the end. Where there is no memory the text stays as it was.
+    /// Puts a character at the end. Want of memory is the one refusal; the text is then unchanged.
     pub fn push(&mut self, c: char) -> Result<(), Memory>
         ensures ok { OnOk result (self.new ≡ self.old ++ encode_utf8 c) }
         ensures err { OnErr result (self.new ≡ self.old) }
     {
         if self.text.len() == self.text.capacity() {
-            self.text.reserve(LEAST)?;
+            self.text.reserve(MIN_GROWTH_BYTES)?;
         }
         self.text.push(c)?;
         Ok(())
     }
 
-    /// Puts a text at the end. Where there is no memory the text stays as it was.
+    /// Puts a text at the end. Want of memory is the one refusal; the text is then unchanged.
     pub fn append(&mut self, s: &str) -> Result<(), Memory>
         ensures ok { OnOk result (self.new ≡ self.old ++ s.now) }
         ensures err { OnErr result (self.new ≡ self.old) }
@@ -60,12 +62,12 @@ impl Text {
         Ok(())
     }
 
-    /// The allocator that it keeps.
+    /// The allocator of its bytes.
     pub fn allocator(&self) -> Global {
         *self.text.allocator()
     }
 
-    /// Lends the text.
+    /// The text.
     pub fn as_str(&self) -> &str
         ensures { result.now ≡ self.now }
     {

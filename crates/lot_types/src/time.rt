@@ -1,11 +1,13 @@
+//! Times.
+
 ghost use Rattle.std.specs.Prelude.{◌≡◌, ◌↔◌, IsSome, IfSome};
 ghost use Rattle.lot_types.specs.Range.{InRange};
 
 use crate::range::is_in_range;
 use std::marker::Model;
 
-/// A moment of an animation in millionths of a frame. It is from -10^13 to 10^13, that is from minus ten million
-/// frames to ten million frames.
+/// A time in millionths of a frame. It is from -10^13 to 10^13, ten million frames either way, which is this project's
+/// own limit.
 #[derive(Clone, Copy)]
 pub struct Time {
     raw: i64,
@@ -25,7 +27,7 @@ impl Model for Time {
 }
 
 impl Time {
-    /// The moment at this many millionths of a frame. `None` exactly where it is out of range.
+    /// The time of `v` millionths of a frame. `None` exactly where `v` is below -10^13 or above 10^13.
     pub fn new(v: i64) -> Option<Time>
         ensures some { IsSome result ↔ InRange v }
         ensures value { IfSome result (λ x. x ≡ v) }
@@ -37,7 +39,7 @@ impl Time {
         }
     }
 
-    /// How many millionths of a frame.
+    /// The number of millionths of a frame, from -10^13 to 10^13.
     pub fn get(self) -> i64
         ensures value { result ≡ self }
         ensures range { InRange result }

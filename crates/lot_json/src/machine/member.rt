@@ -1,60 +1,66 @@
+//! Reading a member of an object from its name to its `:`.
+
 ghost use Rattle.std.specs.Prelude.{◌≡◌, ◌<◌, IfOk, length, slice_index};
 
-use crate::front::Front;
-use crate::machine::{Advance, Machine, Mode, Open, is_space};
-use crate::plain::whole_string;
-use crate::text_token::TextToken;
+use crate::machine::{Container, Machine, Mode, is_white_space};
+use crate::progress::Progress;
+use crate::tokens::{TextToken, string_without_escapes};
 use lot_types::{Memory, Text};
 use std::mem;
 
 impl Machine {
-    ghost use Rattle.lot_json.specs.declared.text_token.TextToken.{TextToken};
+    ghost use Rattle.lot_json.specs.declared.tokens.text_token.TextToken.{TextToken};
+    ghost use Rattle.lot_json.specs.Bytes.{quote};
     ghost use Rattle.lot_json.specs.TextRest.{text_of};
-    ghost use Rattle.lot_json.specs.Reading.{named, shown, stack_of, state_of};
-    ghost use Rattle.lot_json.specs.Residual.{Advances, Answers};
+    ghost use Rattle.lot_json.specs.Pending.{with_name, state_in, stack_of, state_of};
+    ghost use Rattle.lot_json.specs.Residual.{Advances, ReadsByte};
 
-    /// Reads the name of the innermost object's next member from its opening quotation mark on, whatever was read last:
-    /// the whole of it where it ends here and has no escape.
+    /// Reads the beginning of a name of the innermost object, whatever was read last: to its closing quotation mark if it
+    /// has no escape and ends here, and its opening quotation mark alone otherwise. Gives the number of bytes.
     pub(crate) fn begin_name(&mut self, bytes: &[u8]) -> Result<usize, Memory>
         requires some { 0 < length bytes.now }
-        requires quote { slice_index bytes.now 0 ≡ 34 }
-        ensures { IfOk result (λ n. Advances (Advance.Goes n) bytes.now (shown Mode.NextMember (stack_of self.old)) (state_of self.new)) }
+        requires quote { slice_index bytes.now 0 ≡ quote }
+        ensures { IfOk result (λ n. Advances (Progress.Continues n) bytes.now
+            (state_in Mode.NextMember (stack_of self.old)) (state_of self.new)) }
     {
-        match whole_string(&bytes[1..]) {
+        match string_without_escapes(&bytes[1..]) {
             Some(name) => {
                 self.set_name(Text::of(self.alloc, name)?);
-                self.turn_to(Mode::Colon);
+                self.set_mode(Mode::Colon);
                 Ok(name.len() + 2)
             }
             None => {
-                self.turn_to(Mode::Name(TextToken::new(self.alloc)));
+                self.set_mode(Mode::Name(TextToken::new(self.alloc)));
                 Ok(1)
             }
         }
     }
 
-    /// Reads on in a member's name: up to its closing quotation mark, where it ends here.
-    pub(crate) fn name(&mut self, bytes: &[u8]) -> Result<Advance, Memory>
+    /// Reads the rest of a name: to its closing quotation mark if it ends here, and all bytes otherwise.
+    pub(crate) fn read_name(&mut self, bytes: &[u8]) -> Result<Progress, Memory>
         requires { 0 < length bytes.now }
-        ensures { (token : TextToken) → self.old.mode ≡ Mode.Name token → IfOk result (λ a. Advances a bytes.now (state_of self.old) (state_of self.new)) }
+        ensures { (token : TextToken) → self.old.mode ≡ Mode.Name token
+            → IfOk result (λ p. Advances p bytes.now (state_of self.old) (state_of self.new)) }
     {
         let Mode::Name(token) = &mut self.mode else {
-            return Ok(Advance::Stuck(0));
+            return Ok(Progress::Rejects(0));
         };
-        match token.take_front(bytes)? {
-            Front::Goes(read) => Ok(Advance::Goes(read)),
-            Front::Ends(read) => {
+        match token.take_prefix(bytes)? {
+            Progress::Continues(read) => Ok(Progress::Continues(read)),
+            Progress::Ends(read) => {
                 self.end_name();
-                Ok(Advance::Goes(read + 1))
+                Ok(Progress::Continues(read + 1))
             }
-            Front::Stuck(read) => Ok(Advance::Stuck(read)),
+            Progress::Rejects(read) => Ok(Progress::Rejects(read)),
         }
     }
 
-    /// Ends a member's name, whose closing quotation mark was read.
+    /// Ends a name at its closing quotation mark.
     fn end_name(&mut self)
-        ensures mode { (token : TextToken) → self.old.mode ≡ Mode.Name token → self.new.mode ≡ Mode.Colon }
-        ensures stack { (token : TextToken) → self.old.mode ≡ Mode.Name token → stack_of self.new ≡ named (text_of token) (stack_of self.old) }
+        ensures mode { (token : TextToken) → self.old.mode ≡ Mode.Name token
+            → self.new.mode ≡ Mode.Colon }
+        ensures stack { (token : TextToken) → self.old.mode ≡ Mode.Name token
+            → stack_of self.new ≡ with_name (text_of token) (stack_of self.old) }
     {
         let Mode::Name(token) = mem::replace(&mut self.mode, Mode::Colon) else {
             return;
@@ -62,34 +68,34 @@ impl Machine {
         self.set_name(token.finish());
     }
 
-    /// Keeps the name of the member that is being read with the innermost object.
+    /// Sets the name of the innermost object's next member.
     fn set_name(&mut self, name: Text)
         ensures mode { self.new.mode ≡ self.old.mode }
-        ensures stack { stack_of self.new ≡ named name (stack_of self.old) }
+        ensures stack { stack_of self.new ≡ with_name name (stack_of self.old) }
     {
         let Some(inner) = self.stack.last_mut() else {
             return;
         };
-        if let Open::Object(_, old) = inner {
+        if let Container::Object(_, old) = inner {
             *old = name;
         }
     }
 
-    /// Reads a byte behind a member's name.
-    pub(crate) fn colon(&mut self, c: u8) -> bool
+    /// Reads white space or a `:`, after a name. False where the byte is another.
+    pub(crate) fn read_colon(&mut self, c: u8) -> bool
         requires { self.old.mode ≡ Mode.Colon }
-        ensures { Answers result c (state_of self.old) (state_of self.new) }
+        ensures { ReadsByte result c (state_of self.old) (state_of self.new) }
     {
-        if is_space(c) {
+        if is_white_space(c) {
             return true;
         }
         if c != b':' {
             return false;
         }
-        let Some(Open::Object(_, _)) = self.stack.last() else {
+        let Some(Container::Object(_, _)) = self.stack.last() else {
             return false;
         };
-        self.turn_to(Mode::Value);
+        self.set_mode(Mode::Value);
         true
     }
 }

@@ -1,39 +1,38 @@
 use crate::Json;
-use crate::machine::{NumberSoFar, Word};
-use crate::text_token::TextToken;
+use crate::machine::Literal;
+use crate::tokens::{BoundedNumber, TextToken};
 
-/// What is being read within the innermost array or object, or of the root. White space may come first, except within a
-/// byte order mark or a token.
+/// What comes next in a JSON text. White space may come before it, except within a byte order mark or a token.
 #[derive(Drop)]
 pub(crate) enum Mode {
-    /// Nothing was read: a byte order mark or a value comes.
+    /// A byte order mark or a value: nothing was read.
     Start,
-    /// The second byte of a byte order mark comes.
+    /// The second byte of a byte order mark.
     MarkSecond,
-    /// The third byte of a byte order mark comes.
+    /// The third byte of a byte order mark.
     MarkThird,
-    /// A value comes.
+    /// A value.
     Value,
-    /// Behind the `[` of an array, which is not with the open ones yet: an item or the `]` comes.
+    /// The first item of an array or its `]`, after the `[`. The array is not on the stack yet.
     Items,
-    /// Behind an item of the innermost array: a `,` or the `]` comes.
+    /// A `,` or the `]`, after an item of the innermost array.
     AfterItem,
-    /// Behind the `{` of an object, which is not with the open ones yet: a name or the `}` comes.
+    /// The first name of an object or its `}`, after the `{`. The object is not on the stack yet.
     Members,
-    /// Behind a `,` of the innermost object: a name comes.
+    /// A name, after a `,` of the innermost object.
     NextMember,
-    /// In a name of the innermost object.
+    /// The rest of a name of the innermost object.
     Name(TextToken),
-    /// Behind a name of the innermost object: a `:` comes.
+    /// A `:`, after a name of the innermost object.
     Colon,
-    /// Behind a member of the innermost object: a `,` or the `}` comes.
+    /// A `,` or the `}`, after a member of the innermost object.
     AfterMember,
-    /// In a string.
+    /// The rest of a string.
     Text(TextToken),
-    /// In a number.
-    Number(NumberSoFar),
-    /// In a word of which so many letters were read.
-    Word(Word, usize),
-    /// The root's value was read: only white space comes.
+    /// The rest of a number, or the byte after it.
+    Number(BoundedNumber),
+    /// The rest of a literal name, after this many of its letters.
+    Literal(Literal, usize),
+    /// White space alone: the root's value was read.
     Done(Json),
 }

@@ -1,13 +1,14 @@
 use lot_types::{Fx, Time};
 
-/// From when (with it) and until when (without it) an animation runs.
+/// The time of an animation, in millionths of a frame: from `ip`, included, to `op`, excluded.
 #[derive(Clone, Copy)]
 pub struct Span {
     pub ip: Time,
     pub op: Time,
 }
 
-/// The size of an animation in pixels, and from when (with it) and until when (without it) it runs.
+/// The size of an animation in millionths of a pixel, and its time in millionths of a frame: from `ip`, included, to `op`,
+/// excluded.
 #[derive(Clone, Copy)]
 pub struct Canvas {
     pub w: Fx,

@@ -1,11 +1,9 @@
-//! Features of a layer that are left out.
-ghost use Rattle.std.specs.Prelude.{◌≡◌};
-ghost use Rattle.lot_json.specs.declared.json.JsonMembers.{out-JsonMembers};
-ghost use Rattle.lot_read.specs.Outcome.{Gives};
+//! Features of a layer that are not supported.
+ghost use Rattle.lot_read.specs.Members.{RowGives, SameMembers};
 ghost use Rattle.lot_play.specs.Table.{normal_blend, no_items, left_out as left_out_rows};
 
-use lot_json::{Json, JsonMembers, Pointer};
-use lot_read::{AnyNumber, Reader, Unset, optional, refuse};
+use lot_json::{Json, Pointer};
+use lot_read::{Members, NumberValue, Reader, Unset, refusal_at};
 use lot_types::{FaultCode, Refusal, Seq, Use};
 
 /// The blend mode 0. Any other number is [`FaultCode::Unsupported`].
@@ -17,11 +15,11 @@ impl Reader for NormalBlend {
 
     ghost gives = { λ _. normal_blend };
 
-    #[tactic(auto, using(lot_read::proofs::Faults::first_of_front), unfolding(crate::specs::Table::normal_blend))]
+    #[tactic(auto, using(lot_read::proofs::Faults::first_of_prefix), unfolding(crate::specs::Table::normal_blend))]
     fn read(&self, at: &mut Pointer, v: &Json, uses: &mut Seq<Use>) -> Result<(), Refusal> {
-        let mode = AnyNumber.read(at, v, uses)?;
+        let mode = NumberValue::Any.read(at, v, uses)?;
         if mode.get() != 0 {
-            return Err(refuse(FaultCode::Unsupported, at));
+            return Err(refusal_at(FaultCode::Unsupported, at));
         }
         Ok(())
     }
@@ -41,23 +39,23 @@ impl Reader for NoItems {
         match v {
             Json::Items(items) => match items.items() {
                 [] => Ok(()),
-                _ => Err(refuse(FaultCode::Unsupported, at)),
+                _ => Err(refusal_at(FaultCode::Unsupported, at)),
             },
-            _ => Err(refuse(FaultCode::Kind, at)),
+            _ => Err(refusal_at(FaultCode::Kind, at)),
         }
     }
 }
 
 /// Three dimensions, auto-orient, blend modes, effects and layer styles: a layer has none of them.
-#[tactic(auto, using(lot_read::proofs::Faults::first_of_front), unfolding(crate::specs::Table::left_out))]
-pub fn left_out(at: &mut Pointer, m: &JsonMembers, uses: &mut Seq<Use>) -> Result<(), Refusal>
-    ensures gives { Gives result uses.old uses.new (left_out_rows at.old (out-JsonMembers m.now).pairs) }
-    ensures at { at.new ≡ at.old }
+#[tactic(auto, using(lot_read::proofs::Faults::first_of_prefix), unfolding(crate::specs::Table::left_out))]
+pub fn left_out(members: &mut Members) -> Result<(), Refusal>
+    ensures gives { RowGives result members.old members.new left_out_rows }
+    ensures same { SameMembers members.old members.new }
 {
-    optional("ddd", &Unset, false, at, m, uses)?;
-    optional("ao", &Unset, false, at, m, uses)?;
-    optional("bm", &NormalBlend, (), at, m, uses)?;
-    optional("ef", &NoItems, (), at, m, uses)?;
-    optional("sy", &NoItems, (), at, m, uses)?;
+    members.optional("ddd", &Unset, false)?;
+    members.optional("ao", &Unset, false)?;
+    members.optional("bm", &NormalBlend, ())?;
+    members.optional("ef", &NoItems, ())?;
+    members.optional("sy", &NoItems, ())?;
     Ok(())
 }

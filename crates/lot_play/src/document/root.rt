@@ -1,35 +1,33 @@
 //! The reader of a whole document.
-ghost use Rattle.std.specs.Prelude.{◌≡◌};
-ghost use Rattle.lot_json.specs.declared.json.JsonMembers.{out-JsonMembers};
-ghost use Rattle.lot_read.specs.Outcome.{Gives, Answers};
+ghost use Rattle.lot_read.specs.Members.{RowGives, SameMembers};
+ghost use Rattle.lot_read.specs.Outcome.{IsAnswer};
+ghost use Rattle.lot_read.specs.SlotNames.{names_in};
 ghost use Rattle.lot_play.specs.Table.{span_rows, root, document};
 
 use crate::document::Document;
 use crate::document::canvas::{Canvas, Span};
 use crate::document::layer::LayerRows;
-use lot_json::{Json, JsonMembers, Pointer};
-use lot_read::{
-    AboveZero, ListOf, Moment, NotBelowZero, Object, Reader, Rows, SlotNames, needed, refuse_under,
-    unbuilt,
-};
-use lot_types::{FaultCode, Refusal, Seq, Use};
+use lot_json::{Json, Pointer};
+use lot_read::{ListOf, Members, Moment, NumberValue, Object, Reader, Rows, SlotNames};
+use lot_types::{FaultCode, Refusal, Seq};
 use std::alloc::Global;
 
-/// From when and until when an animation runs. It is [`FaultCode::Order`] where it does not end behind its start.
-#[tactic(auto, using(lot_read::proofs::Faults::first_of_front), unfolding(crate::specs::Table::span_rows))]
-fn span(at: &mut Pointer, m: &JsonMembers, uses: &mut Seq<Use>) -> Result<Span, Refusal>
-    ensures gives { Gives result uses.old uses.new (span_rows at.old (out-JsonMembers m.now).pairs) }
-    ensures at { at.new ≡ at.old }
+/// Reads from which frame on and up to which frame an animation runs. Where it does not end after its start the fault is
+/// [`FaultCode::Order`] at `op`.
+#[tactic(auto, using(lot_read::proofs::Faults::first_of_prefix), unfolding(crate::specs::Table::span_rows))]
+fn span(members: &mut Members) -> Result<Span, Refusal>
+    ensures gives { RowGives result members.old members.new span_rows }
+    ensures same { SameMembers members.old members.new }
 {
-    let ip = needed("ip", &Moment, at, m, uses)?;
-    let op = needed("op", &Moment, at, m, uses)?;
+    let ip = members.needed("ip", &Moment)?;
+    let op = members.needed("op", &Moment)?;
     if op.get() <= ip.get() {
-        return Err(refuse_under(FaultCode::Order, "op", at));
+        return Err(members.refusal_at(FaultCode::Order, "op"));
     }
     Ok(Span { ip, op })
 }
 
-/// The members of a document.
+/// The members of the root.
 #[derive(Clone, Copy)]
 struct RootRows<'a> {
     names: &'a SlotNames,
@@ -38,28 +36,23 @@ struct RootRows<'a> {
 impl<'a> Rows for RootRows<'a> {
     type Value = Document;
 
-    ghost rows = { λ r. root r.names.now };
+    ghost rows = { λ r. root (names_in r.names.now) };
 
-    #[tactic(auto, using(lot_read::proofs::Faults::first_of_front), unfolding(crate::specs::Table::root))]
-    fn rows(
-        &self,
-        at: &mut Pointer,
-        m: &JsonMembers,
-        uses: &mut Seq<Use>,
-    ) -> Result<Document, Refusal> {
+    #[tactic(auto, using(lot_read::proofs::Faults::first_of_prefix), unfolding(crate::specs::Table::root))]
+    fn read_rows(&self, members: &mut Members) -> Result<Document, Refusal> {
         let list = ListOf {
-            most: 4096,
+            max: 4096,
             item: Object {
                 rows: LayerRows { names: self.names },
             },
         };
-        let w = needed("w", &NotBelowZero, at, m, uses)?;
-        let h = needed("h", &NotBelowZero, at, m, uses)?;
-        needed("fr", &AboveZero, at, m, uses)?;
-        let Span { ip, op } = span(at, m, uses)?;
-        unbuilt("slots", at, m, uses)?;
-        unbuilt("assets", at, m, uses)?;
-        let layers = needed("layers", &list, at, m, uses)?;
+        let w = members.needed("w", &NumberValue::NotBelowZero)?;
+        let h = members.needed("h", &NumberValue::NotBelowZero)?;
+        members.needed("fr", &NumberValue::AboveZero)?;
+        let Span { ip, op } = span(members)?;
+        members.unbuilt("slots")?;
+        members.unbuilt("assets")?;
+        let layers = members.needed("layers", &list)?;
         Ok(Document {
             canvas: Canvas { w, h, ip, op },
             layers,
@@ -67,9 +60,10 @@ impl<'a> Rows for RootRows<'a> {
     }
 }
 
-/// Reads a document. It answers the first fault in the order of the tables of members, or want of memory.
+/// Reads a document from its tree. It answers the document, or its first fault in the order of the tables of members, or
+/// want of memory.
 pub fn read_document(alloc: Global, j: &Json) -> Result<Document, Refusal>
-    ensures { Answers result (document j.now) }
+    ensures { IsAnswer result (document j.now) }
 {
     let names = SlotNames::none(alloc);
     let mut at = Pointer::new(alloc)?;

@@ -1,6 +1,6 @@
 use lot_types::{Fx, Point, Rgb, Time};
 
-/// A rectangle of one colour, of `w` by `h` pixels.
+/// A rectangle of one colour, of `w` by `h` millionths of a pixel.
 #[derive(Clone, Copy)]
 pub struct Solid {
     pub w: Fx,
@@ -8,8 +8,8 @@ pub struct Solid {
     pub rgb: Rgb,
 }
 
-/// A layer of one colour: a rectangle of `w` by `h` pixels, of which the left upper corner stands at `position`. It is
-/// visible from `ip` (with it) to `op` (without it), where it is not hidden.
+/// A layer of one colour: a rectangle of `w` by `h` millionths of a pixel, whose left upper corner is at `position`. It is
+/// visible from `ip`, included, to `op`, excluded, where it is not hidden.
 #[derive(Clone, Copy)]
 pub struct SolidLayer {
     pub hidden: bool,

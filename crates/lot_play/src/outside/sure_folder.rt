@@ -1,15 +1,17 @@
+//! A folder in memory that never fails.
 ghost use Rattle.std.specs.Prelude.{◌≡◌, ◌≤◌, [], ◌∷◌, ◌++◌, length, OnOk, OnErr, IsSome};
 ghost use Rattle.std.specs.Option.{option_copied};
-ghost use Rattle.lot_play.specs.Entries.{content_of};
-ghost use Rattle.lot_play.specs.Outside.{Puts};
+ghost use Rattle.lot_play.specs.Folder.{ReadsInto, content_of};
 
 use crate::outside::Folder;
 use lot_types::{Bytes, Failed, Memory, Seq, Text};
 use std::alloc::Global;
 use std::marker::Model;
 
-/// A folder in memory that serves exactly the names that it holds and never fails. Contracts see it as the list of
-/// its names and contents, of which the last of a name counts, and the number of bytes that it gave.
+/// A folder in memory that serves exactly the names that it contains, and never fails.
+///
+/// Contracts see it as the list of its names with their contents, of which the last of a name counts, and the number of
+/// bytes that it gave.
 #[derive(Drop)]
 pub struct SureFolder {
     alloc: Global,
@@ -18,15 +20,15 @@ pub struct SureFolder {
 }
 
 impl Model for SureFolder {
-    ghost use Rattle.lot_play.specs.Entries.{Shelf};
+    ghost use Rattle.lot_play.specs.Folder.{FolderEntries};
 
-    ghost Value = { Shelf };
+    ghost Value = { FolderEntries };
 
     ghost view = { λ f. record { entries = f.entries; given = f.given } };
 }
 
 impl SureFolder {
-    /// A folder that holds no names.
+    /// Makes a folder that contains no names. It takes no memory.
     pub fn new(alloc: Global) -> SureFolder
         ensures entries { result.entries ≡ [] }
         ensures given { result.given ≡ 0 }
@@ -38,9 +40,10 @@ impl SureFolder {
         }
     }
 
-    /// Gives a name its content.
+    /// Gives a name its content, in place of the one that it had. Where there is no memory the folder is as before.
     pub fn hold(&mut self, name: &str, content: &[u8]) -> Result<(), Memory>
-        ensures ok { OnOk result (self.new.entries ≡ self.old.entries ++ (name.now, content.now) ∷ []) }
+        ensures ok { OnOk result
+            (self.new.entries ≡ self.old.entries ++ (name.now, content.now) ∷ []) }
         ensures err { OnErr result (self.new.entries ≡ self.old.entries) }
         ensures given { self.new.given ≡ self.old.given }
     {
@@ -51,16 +54,16 @@ impl SureFolder {
         Ok(())
     }
 
-    /// Lends the content of a name.
+    /// Finds the content of a name.
     fn find(&self, name: &str) -> Option<&Bytes>
         ensures { option_copied result ≡ content_of self.now.entries name.now }
     {
-        find_in(self.entries.items(), name)
+        find_last(self.entries.items(), name)
     }
 }
 
-/// The last of the entries with a name.
-fn find_in<'a>(entries: &'a [(Text, Bytes)], name: &str) -> Option<&'a Bytes>
+/// Finds the content of the last entry of a name.
+fn find_last<'a>(entries: &'a [(Text, Bytes)], name: &str) -> Option<&'a Bytes>
     ensures { option_copied result ≡ content_of entries.now name.now }
 {
     let mut found = None;
@@ -72,10 +75,10 @@ fn find_in<'a>(entries: &'a [(Text, Bytes)], name: &str) -> Option<&'a Bytes>
     found
 }
 
-/// Puts the bytes of a content from a place on at the front of a buffer, and answers how many.
-fn put_from(content: &[u8], from: u64, buf: &mut [u8]) -> usize
+/// Copies the bytes of a content, from the place `from` on, into the first bytes of a buffer, and answers how many.
+fn copy_from(content: &[u8], from: u64, buf: &mut [u8]) -> usize
     ensures within { result ≤ length buf.old }
-    ensures puts { Puts content.now from result (length buf.old) buf.new }
+    ensures bytes { ReadsInto buf.new content.now from result (length buf.old) }
 {
     let rest = &content[content.len().min(from as usize)..];
     let n = rest.len().min(buf.len());
@@ -84,17 +87,13 @@ fn put_from(content: &[u8], from: u64, buf: &mut [u8]) -> usize
 }
 
 impl Folder for SureFolder {
-    ghost faults = { λ _. 0 };
-
-    ghost given = { λ f. f.given };
+    ghost state = { λ f. record { content = content_of f.entries; faults = 0; given = f.given } };
 
     ghost serves = { λ f name. IsSome (content_of f.entries name) };
 
-    ghost told = { λ f name. content_of f.entries name };
-
     fn read(&mut self, name: &str, from: u64, buf: &mut [u8]) -> Result<usize, Failed> {
         let n = match self.find(name) {
-            Some(content) => put_from(content.as_slice(), from, buf),
+            Some(content) => copy_from(content.as_slice(), from, buf),
             None => unreachable!(),
         };
         self.given = self.given.saturating_add(n as u64);

@@ -1,5 +1,8 @@
-ghost use Rattle.std.specs.Prelude.{◌≡◌, [], Some};
-ghost use Rattle.lot_play.specs.declared.outside.sink.SinkRefusal.TheVariants as refusal;
+//! A sink in memory that never fails.
+ghost use Rattle.std.specs.Prelude.{◌≡◌, ◌≤◌, [], ◌++◌, Some, length, take, IfOk, OnOk, OnErr, Err};
+ghost use Rattle.lot_play.specs.Count.{Rose};
+ghost use Rattle.lot_play.specs.Sink.{Gains};
+ghost use Rattle.lot_play.specs.declared.outside.sink.SinkRefusal.TheVariants.{Failed};
 
 use crate::outside::{Sink, SinkRefusal};
 use lot_types::{Bytes, Memory};
@@ -21,7 +24,7 @@ impl Model for SureSink {
 }
 
 impl SureSink {
-    /// A sink that holds nothing.
+    /// Makes a sink that took nothing. It takes no memory.
     pub fn new(alloc: Global) -> SureSink
         ensures { result ≡ [] }
     {
@@ -30,7 +33,7 @@ impl SureSink {
         }
     }
 
-    /// Lends what was taken.
+    /// Returns a reference to all bytes that were taken, in order.
     pub fn taken(&self) -> &[u8]
         ensures { result.now ≡ self.now }
     {
@@ -38,20 +41,18 @@ impl SureSink {
     }
 }
 
-impl From<Memory> for SinkRefusal {
-    ghost from_gives = { λ _ e. e ≡ refusal.Memory };
-
-    fn from(_memory: Memory) -> SinkRefusal {
-        SinkRefusal::Memory
-    }
-}
-
 impl Sink for SureSink {
-    ghost faults = { λ _. 0 };
+    ghost state = { λ s. record { taken = Some s; faults = 0 } };
 
-    ghost held = { λ s. Some s };
-
-    fn write(&mut self, bytes: &[u8]) -> Result<usize, SinkRefusal> {
+    /// Gains all bytes, or none for want of memory.
+    fn write(&mut self, bytes: &[u8]) -> Result<usize, SinkRefusal>
+        ensures whole { IfOk result (λ n. n ≡ length bytes.now) }
+        ensures within { IfOk result (λ n. n ≤ length bytes.now) }
+        ensures some { IfOk result (λ n. n ≡ 0 → bytes.now ≡ []) }
+        ensures takes { IfOk result (λ n. self.new ≡ self.old ++ take n bytes.now) }
+        ensures refused { OnErr result (self.new ≡ self.old) }
+        ensures cause { result ≡ Err Failed → Rose 0 0 }
+    {
         self.taken.append(bytes)?;
         Ok(bytes.len())
     }

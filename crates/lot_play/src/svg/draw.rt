@@ -9,11 +9,11 @@ use crate::document::solid::SolidLayer;
 use crate::svg::element::{
     end_attribute, end_empty_tag, end_tag, put_attribute, put_close_tag, start_attribute, start_tag,
 };
-use crate::svg::number::{put_colour, put_length, put_matrix, put_rectangle, put_view_box};
+use crate::svg::number::{put_color, put_length, put_matrix, put_rectangle, put_view_box};
 use lot_types::{Bytes, Fx, Matrix, Memory, Point, Time};
 use std::alloc::Global;
 
-/// The map that moves every point by the same way.
+/// The matrix of a translation.
 fn moved_by(p: Point) -> Matrix
     ensures { result ≡ move_by p }
 {
@@ -30,7 +30,7 @@ fn is_identity(m: &Matrix) -> bool
     *m == Matrix::IDENTITY
 }
 
-/// The transform of a layer, left out where it is the identity.
+/// Writes the transform of a layer, which is left out where it is the identity.
 #[tactic(auto, unfolding(crate::specs::Svg::attribute, crate::specs::Svg::transform_text))]
 fn put_transform(out: &mut Bytes, m: &Matrix) -> Result<(), Memory>
     ensures { OnOk result (out.new ≡ out.old ++ transform_text m.now) }
@@ -43,14 +43,14 @@ fn put_transform(out: &mut Bytes, m: &Matrix) -> Result<(), Memory>
     end_attribute(out)
 }
 
-/// The rectangle of a layer, filled with its colour.
+/// Writes the rectangle of a layer, filled with its colour.
 #[tactic(auto, unfolding(crate::specs::Svg::attribute, crate::specs::Svg::fill_text))]
 fn put_fill(out: &mut Bytes, layer: &SolidLayer) -> Result<(), Memory>
     ensures { OnOk result (out.new ≡ out.old ++ fill_text (node layer.now)) }
 {
     start_tag(out, "path")?;
     start_attribute(out, "fill")?;
-    put_colour(out, layer.rgb)?;
+    put_color(out, layer.rgb)?;
     end_attribute(out)?;
     start_attribute(out, "d")?;
     put_rectangle(out, layer.w, layer.h)?;
@@ -58,7 +58,7 @@ fn put_fill(out: &mut Bytes, layer: &SolidLayer) -> Result<(), Memory>
     end_empty_tag(out)
 }
 
-/// A layer: a group with its transform, and its fill in it.
+/// Writes a layer: a group with its transform, and its fill in it.
 #[tactic(auto, unfolding(crate::specs::Svg::node_text))]
 fn put_layer(out: &mut Bytes, layer: &SolidLayer) -> Result<(), Memory>
     ensures { OnOk result (out.new ≡ out.old ++ node_text (node layer.now)) }
@@ -76,7 +76,7 @@ fn is_visible(layer: &SolidLayer, t: Time) -> bool
     !layer.hidden && layer.ip.get() <= t.get() && t.get() < layer.op.get()
 }
 
-/// The visible layers from the last to the first.
+/// Writes the visible layers from the last to the first.
 fn put_layers(out: &mut Bytes, layers: &[SolidLayer], t: Time) -> Result<(), Memory>
     ensures { OnOk result (out.new ≡ out.old ++ flat_map node_text (nodes_of t layers.now)) }
 {
@@ -90,7 +90,7 @@ fn put_layers(out: &mut Bytes, layers: &[SolidLayer], t: Time) -> Result<(), Mem
     Ok(())
 }
 
-/// An attribute that is a length.
+/// Writes an attribute that is a length.
 #[tactic(auto, unfolding(crate::specs::Svg::attribute))]
 fn put_length_attribute(out: &mut Bytes, name: &str, v: Fx) -> Result<(), Memory>
     ensures { OnOk result (out.new ≡ out.old ++ attribute name.now (length_text v)) }
@@ -100,7 +100,7 @@ fn put_length_attribute(out: &mut Bytes, name: &str, v: Fx) -> Result<(), Memory
     end_attribute(out)
 }
 
-/// The size of an animation, and the part of the plane that it shows.
+/// Writes the size of an animation, and the part of the plane that it shows.
 #[tactic(auto, unfolding(crate::specs::Svg::attribute, crate::specs::Svg::canvas_text))]
 fn put_canvas(out: &mut Bytes, c: &Canvas) -> Result<(), Memory>
     ensures { OnOk result (out.new ≡ out.old ++ canvas_text c.now) }
@@ -112,7 +112,7 @@ fn put_canvas(out: &mut Bytes, c: &Canvas) -> Result<(), Memory>
     end_attribute(out)
 }
 
-/// The namespace of the standard.
+/// Writes the namespace of SVG.
 #[tactic(auto, unfolding(crate::specs::Svg::namespace_text))]
 fn put_namespace(out: &mut Bytes) -> Result<(), Memory>
     ensures { OnOk result (out.new ≡ out.old ++ namespace_text) }
@@ -120,7 +120,7 @@ fn put_namespace(out: &mut Bytes) -> Result<(), Memory>
     put_attribute(out, "xmlns", "http://www.w3.org/2000/svg")
 }
 
-/// The version of the standard.
+/// Writes the version of SVG.
 #[tactic(auto, unfolding(crate::specs::Svg::version_text))]
 fn put_version(out: &mut Bytes) -> Result<(), Memory>
     ensures { OnOk result (out.new ≡ out.old ++ version_text) }
@@ -128,7 +128,7 @@ fn put_version(out: &mut Bytes) -> Result<(), Memory>
     put_attribute(out, "version", "1.1")
 }
 
-/// The tag that opens the root element.
+/// Writes the tag that opens the root element.
 #[tactic(auto, unfolding(crate::specs::Svg::head_text))]
 fn put_head(out: &mut Bytes, c: &Canvas) -> Result<(), Memory>
     ensures { OnOk result (out.new ≡ out.old ++ head_text c.now) }
@@ -140,7 +140,7 @@ fn put_head(out: &mut Bytes, c: &Canvas) -> Result<(), Memory>
     end_tag(out)
 }
 
-/// The SVG of the frame of a document at a time.
+/// Draws the frame of a document at a time, in millionths of a frame, as SVG.
 pub fn draw_frame(alloc: Global, d: &Document, t: Time) -> Result<Bytes, Memory>
     ensures { IfOk result (λ svg. svg ≡ svg_text d.now.canvas (frame_of d.now t)) }
 {

@@ -1,7 +1,7 @@
-//! Numbers, colours and matrices as attribute values.
+//! Numbers, colours and matrices as values of attributes, written at the end of a text.
 ghost use Rattle.std.specs.Prelude.{◌≡◌, ◌++◌, ◌≤◌, ◌<◌, [], ◌∷◌, OnOk, codes};
 ghost use Rattle.lot_num.specs.Digits.{printed};
-ghost use Rattle.lot_play.specs.Svg.{length_text, entry_text, entry_pair_text, hex_text, byte_text, colour_text, matrix_text, point_text, rectangle_text, view_box_text};
+ghost use Rattle.lot_play.specs.Svg.{length_text, entry_text, entry_pair_text, hex_text, byte_text, color_text, matrix_text, point_text, rectangle_text, view_box_text};
 
 use crate::document::canvas::Canvas;
 use crate::svg::element::put;
@@ -17,7 +17,7 @@ fn put_number(out: &mut Bytes, v: Fx, digits: u32) -> Result<(), Memory>
     out.append(&text[..n])
 }
 
-/// A length in pixels.
+/// Writes a length in pixels, with at most three decimals.
 #[tactic(auto, unfolding(crate::specs::Svg::length_text))]
 pub fn put_length(out: &mut Bytes, v: Fx) -> Result<(), Memory>
     ensures { OnOk result (out.new ≡ out.old ++ length_text v) }
@@ -25,7 +25,7 @@ pub fn put_length(out: &mut Bytes, v: Fx) -> Result<(), Memory>
     put_number(out, v, 3)
 }
 
-/// A coefficient.
+/// Writes an entry of a matrix, with at most six decimals.
 #[tactic(auto, unfolding(crate::specs::Svg::entry_text))]
 fn put_entry(out: &mut Bytes, v: Fx) -> Result<(), Memory>
     ensures { OnOk result (out.new ≡ out.old ++ entry_text v) }
@@ -47,10 +47,10 @@ fn put_byte(out: &mut Bytes, n: u8) -> Result<(), Memory>
     out.append(&[hex_digit(n / 16), hex_digit(n % 16)])
 }
 
-/// A colour.
-#[tactic(auto, unfolding(crate::specs::Svg::colour_text))]
-pub fn put_colour(out: &mut Bytes, c: Rgb) -> Result<(), Memory>
-    ensures { OnOk result (out.new ≡ out.old ++ colour_text c) }
+/// Writes a colour as `#rrggbb`.
+#[tactic(auto, unfolding(crate::specs::Svg::color_text))]
+pub fn put_color(out: &mut Bytes, c: Rgb) -> Result<(), Memory>
+    ensures { OnOk result (out.new ≡ out.old ++ color_text c) }
 {
     put(out, "#")?;
     put_byte(out, c.r)?;
@@ -58,7 +58,7 @@ pub fn put_colour(out: &mut Bytes, c: Rgb) -> Result<(), Memory>
     put_byte(out, c.b)
 }
 
-/// Two coefficients.
+/// Writes two entries of a matrix.
 fn put_entry_pair(out: &mut Bytes, x: Fx, y: Fx) -> Result<(), Memory>
     ensures { OnOk result (out.new ≡ out.old ++ entry_pair_text x y) }
 {
@@ -67,7 +67,7 @@ fn put_entry_pair(out: &mut Bytes, x: Fx, y: Fx) -> Result<(), Memory>
     put_entry(out, y)
 }
 
-/// A matrix.
+/// Writes a matrix as `matrix(a b c d e f)`.
 #[tactic(auto, unfolding(crate::specs::Svg::matrix_text))]
 pub fn put_matrix(out: &mut Bytes, m: &Matrix) -> Result<(), Memory>
     ensures { OnOk result (out.new ≡ out.old ++ matrix_text m.now) }
@@ -81,7 +81,7 @@ pub fn put_matrix(out: &mut Bytes, m: &Matrix) -> Result<(), Memory>
     put(out, ")")
 }
 
-/// A point of path data.
+/// Writes a point of path data.
 fn put_point(out: &mut Bytes, x: Fx, y: Fx) -> Result<(), Memory>
     ensures { OnOk result (out.new ≡ out.old ++ point_text x y) }
 {
@@ -90,7 +90,7 @@ fn put_point(out: &mut Bytes, x: Fx, y: Fx) -> Result<(), Memory>
     put_length(out, y)
 }
 
-/// The closed contour of a rectangle.
+/// Writes the path data of a rectangle: a closed contour from (0, 0), of `w` by `h`.
 #[tactic(auto, unfolding(crate::specs::Svg::rectangle_text))]
 pub fn put_rectangle(out: &mut Bytes, w: Fx, h: Fx) -> Result<(), Memory>
     ensures { OnOk result (out.new ≡ out.old ++ rectangle_text w h) }
@@ -106,7 +106,7 @@ pub fn put_rectangle(out: &mut Bytes, w: Fx, h: Fx) -> Result<(), Memory>
     put(out, "Z")
 }
 
-/// The visible part of the plane.
+/// Writes the visible part of the plane.
 #[tactic(auto, unfolding(crate::specs::Svg::view_box_text))]
 pub fn put_view_box(out: &mut Bytes, c: &Canvas) -> Result<(), Memory>
     ensures { OnOk result (out.new ≡ out.old ++ view_box_text c.now) }

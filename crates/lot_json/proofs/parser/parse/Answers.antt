@@ -1,5 +1,5 @@
 use Rattle.std.proofs.Common.{◌≡◌, [], Result, Ok, Err, IsErrAnd, IfErr, sym, subst}
-use Rattle.lot_json.specs.declared.json.Json.{Json}
+use Rattle.lot_json.specs.declared.tree.json.Json.{Json}
 use Rattle.lot_json.specs.declared.refusal.JsonRefusal.{JsonRefusal}
 use Rattle.lot_json.specs.Refusal.{IsNoText}
 use Rattle.lot_json.proofs.Pieces.{refused_text}

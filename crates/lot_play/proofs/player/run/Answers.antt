@@ -1,29 +1,45 @@
-use Rattle.std.proofs.Common.{[], List, ℕ, refl, sym, subst}
-use Rattle.lot_play.specs.Outside.{Adds}
-use Rattle.lot_play.specs.Output.{on_misuse}
-use Rattle.lot_play.proofs.Ending.{adds_none}
-use Rattle.lot_play.proofs.Running.{run_defined, run_exists, run_front, misuse_defined}
+use Rattle.std.proofs.Common.{◌≡◌, [], ◌+◌, List, ℕ, refl, sym, ap, inl, inr, subst, arith}
+use Rattle.lot_play.specs.declared.answer.Answer.{Answer}
+use Rattle.lot_play.specs.Count.{RoseBy}
+use Rattle.lot_play.specs.Sink.{Gains}
+use Rattle.lot_play.specs.Output.{Outcome, on_no_command, total_length}
+use Rattle.lot_play.proofs.Running.{takes_none, narrow, widen, known_one, no_command}
 use Rattle.lot_play.proofs.player.run.Goals as goal
 
 pub run_task-requires : goal.run_task-requires
-run_task-requires g c = c.requires.serves _ _ c.in-Some.ensures.is
+run_task-requires g c = c.requires.serves _ _ c.in-Some.ensures.is 0 [] (omega arith)
 
 pub returns-in-Some-clause-defined : goal.returns-in-Some-clause-defined
-returns-in-Some-clause-defined g c = run_defined _ _ _ _ c.in-Some.ensures _ _ _ _ _ _ _ _ _ c.run_task.ensures.ends
+returns-in-Some-clause-defined g c = λ whole o out. c.run_task.ensures.ends.defined whole o (narrow _ _ _ _ o c.in-Some.ensures out)
 
 pub returns-in-Some-clause-exists : goal.returns-in-Some-clause-exists
-returns-in-Some-clause-exists g c = run_exists (g.F.Folder.told c.args.folder.now) _ _ _ c.in-Some.ensures _ _ _ _ _ _ _ _ _ c.run_task.ensures.ends
+returns-in-Some-clause-exists g c = λ whole known.
+    widen _ _ _ _ _ c.in-Some.ensures (c.run_task.ensures.ends.exists whole (known_one (g.F.Folder.state c.args.folder.now).content _ _ _ c.in-Some.ensures known))
 
-pub returns-in-Some-clause-front : goal.returns-in-Some-clause-front
-returns-in-Some-clause-front g c = run_front _ _ _ _ c.in-Some.ensures _ _ _ _ _ _ _ _ _ c.run_task.ensures.ends
+pub returns-in-Some-clause-read_once : goal.returns-in-Some-clause-read_once
+returns-in-Some-clause-read_once g c = λ judged o out. c.run_task.ensures.ends.read_once judged o (narrow _ _ _ _ o c.in-Some.ensures out)
+
+pub returns-in-Some-clause-prefix : goal.returns-in-Some-clause-prefix
+returns-in-Some-clause-prefix g c = λ short o out. c.run_task.ensures.ends.prefix short o (narrow _ _ _ _ o c.in-Some.ensures out)
 
 pub returns-in-Some-clause-misused : goal.returns-in-Some-clause-misused
 returns-in-Some-clause-misused g c = λ none. absurd (none _ _ c.in-Some.ensures.is)
 
+pub returns-in-Some-clause-usage : goal.returns-in-Some-clause-usage
+returns-in-Some-clause-usage g c = λ e. inr (_, _, c.in-Some.ensures.is, c.run_task.ensures.usage e)
+
 pub returns-in-None-clause-defined : goal.returns-in-None-clause-defined
-returns-in-None-clause-defined g c = λ whole bytes status o.
-    let e = misuse_defined (g.F.Folder.told c.args.folder.now) c.args.words.now c.in-None.ensures bytes status o in
-    (sym e.1, subst (λ (b : List ℕ). Adds (g.K.Sink.held c.args.out.now) (g.K.Sink.held c.args.out.now) b) (sym e.0) (adds_none (g.K.Sink.held c.args.out.now)))
+returns-in-None-clause-defined g c = λ whole o out.
+    let e = no_command (g.F.Folder.state c.args.folder.now).content c.args.arguments.now o c.in-None.ensures out in
+    (ap (λ (z : Outcome). z.answer.status) (sym e), subst (λ (z : Outcome). Gains (g.K.Sink.state c.args.out.now) (g.K.Sink.state c.args.out.now) z.answer.bytes) (sym e) (takes_none (g.K.Sink.state c.args.out.now)))
 
 pub returns-in-None-clause-exists : goal.returns-in-None-clause-exists
-returns-in-None-clause-exists g c = λ whole told. ([], on_misuse c.in-None.ensures refl refl)
+returns-in-None-clause-exists g c = λ whole known. (_, on_no_command c.in-None.ensures refl, refl)
+
+pub returns-in-None-clause-read_once : goal.returns-in-None-clause-read_once
+returns-in-None-clause-read_once g c = λ judged o out.
+    let e = no_command (g.F.Folder.state c.args.folder.now).content c.args.arguments.now o c.in-None.ensures out in
+    subst (λ (z : Outcome). RoseBy (total_length z.read) (g.F.Folder.state c.args.folder.now).given (g.F.Folder.state c.args.folder.now).given) (sym e) (inl (omega arith))
+
+pub returns-in-None-clause-usage : goal.returns-in-None-clause-usage
+returns-in-None-clause-usage g c = λ e. inl c.in-None.ensures

@@ -1,11 +1,11 @@
 use Rattle.std.proofs.Common.{◌≡◌, ◌≤◌, ◌-◌, ◌++◌, List, ℕ, length, take}
 use Rattle.std.proofs.Common.{Option}
-use Rattle.lot_json.specs.declared.machine.state.Machine.{Machine}
+use Rattle.lot_json.specs.declared.machine.machine.Machine.{Machine}
 use Rattle.lot_json.specs.declared.refusal.JsonRefusal.{JsonRefusal}
-use Rattle.lot_json.specs.Stands.{Reads}
+use Rattle.lot_json.specs.Fed.{Reads}
 use Rattle.lot_json.proofs.decoder.Decoder.read.Given as goal
 
--- What was read of the piece so far.
+-- What was read of the piece.
 pub record IsReading (first : Machine) (start : ℕ) (before : Option JsonRefusal) (now : Machine) (taken : ℕ) (after : Option JsonRefusal) (read : List ℕ) : Type 0 where
   pub reads : (b : List ℕ) → Reads first start b → Reads now taken (b ++ read)
   pub same : after ≡ before

@@ -1,6 +1,6 @@
 use Rattle.std.proofs.Common.{arith}
 use Rattle.std.proofs.lemmas.Grind.{common_steps}
-use Rattle.lot_read.specs.Values.{gradient}
+use Rattle.lot_read.specs.Gradient.{gradient}
 use Rattle.lot_read.proofs.Lengths.{list_length}
 use Rattle.lot_read.proofs.gradient.GradientValueReader.read.Goals as goal
 

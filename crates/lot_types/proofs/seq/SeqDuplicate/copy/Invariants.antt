@@ -1,4 +1,4 @@
--- What was copied so far is the front of the list.
+-- The items that are copied are the first of the list.
 use Rattle.std.proofs.Common.{◌≡◌, take}
 use Rattle.lot_types.proofs.seq.SeqDuplicate.copy.Given as goal
 

@@ -1,7 +1,0 @@
-use Rattle.lot_json.proofs.CharacterMoves.{four_bytes}
-use Rattle.lot_json.proofs.part.begin_four.Goals as goal
-
-pub returns : goal.returns
-returns c =
-    let s = four_bytes c.args.c c.from.result c.second_least.result c.second_most.result c.second_least.ensures c.second_most.ensures c.from.ensures c.requires.least c.requires.most in
-    (s.same, s.ends)

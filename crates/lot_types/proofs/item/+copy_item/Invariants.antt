@@ -1,0 +1,6 @@
+-- The items that are copied are the first of the list.
+use Rattle.std.proofs.Common.{◌≡◌, take}
+use Rattle.lot_types.proofs.item.+copy_item.Given as goal
+
+abbrev pub invariant-loop-x : goal.invariant-loop-x
+invariant-loop-x l = l.made ≡ take l.x-index l.x-items

@@ -1,0 +1,296 @@
+//! Shapes, styles and groups of shape layers.
+
+ghost use Rattle.std.specs.Prelude.{◌≡◌, IfOk};
+
+use crate::duplicate::{copy_four, copy_three, copy_two};
+use crate::{Bezier, Color, Dash, Duplicate, Fx, Memory, Point, Prop, Seq, Stops, Transform};
+
+/// An item of a shape layer, after the Lottie Specification 1.0, "Shapes". Each field is the member of the same name;
+/// `hidden` is `hd`, and `or_` and `is_` are `or` and `is`.
+///
+/// Lengths are in millionths of a pixel, angles in millionths of a degree, and roundness, opacity and parts of a path
+/// in millionths of a per cent. Where `d` is 3 a shape is drawn in the reverse direction. A number of a `u8` field that
+/// is none of those that are named counts as the greatest of them.
+#[derive(Drop)]
+pub enum Item {
+    /// Items with a transform of their own.
+    Group {
+        hidden: bool,
+        it: Seq<Item>,
+    },
+    /// A rectangle about the center `p`, of the size `s`, with corners of the radius `r`.
+    Rect {
+        hidden: bool,
+        p: Prop<Point>,
+        s: Prop<Point>,
+        r: Prop<Fx>,
+        d: Option<Fx>,
+    },
+    /// An ellipse about the center `p`, of the size `s`.
+    Ellipse {
+        hidden: bool,
+        p: Prop<Point>,
+        s: Prop<Point>,
+        d: Option<Fx>,
+    },
+    /// A star (`sy` 1) or a polygon (`sy` 2) about the center `p`, with `pt` points, turned by `r`. The outer points
+    /// have the radius `or_` and the roundness `os`, and the inner ones `ir` and `is_`.
+    Star {
+        hidden: bool,
+        sy: u8,
+        pt: Prop<Fx>,
+        p: Prop<Point>,
+        r: Prop<Fx>,
+        or_: Prop<Fx>,
+        os: Prop<Fx>,
+        ir: Prop<Fx>,
+        is_: Prop<Fx>,
+        d: Option<Fx>,
+    },
+    /// A path.
+    Path {
+        hidden: bool,
+        ks: Prop<Bezier>,
+        d: Option<Fx>,
+    },
+    /// A fill of the color `c` and the opacity `o`, by the rule `r`: 1 nonzero, 2 even-odd.
+    Fill {
+        hidden: bool,
+        c: Prop<Color>,
+        o: Prop<Fx>,
+        r: u8,
+    },
+    /// A stroke of the color `c`, the opacity `o` and the width `w`. Its ends are `lc` (1 butt, 2 round, 3 square), its
+    /// corners `lj` (1 miter, 2 round, 3 bevel), its miter limit `ml`, in millionths, and its dashes `d`.
+    Stroke {
+        hidden: bool,
+        c: Prop<Color>,
+        o: Prop<Fx>,
+        w: Prop<Fx>,
+        lc: u8,
+        lj: u8,
+        ml: Fx,
+        d: Seq<Dash>,
+    },
+    /// A fill by a gradient from `s` to `e`, of the colors `g`: 1 linear, 2 radial (`t`). Of a radial one `h` is the
+    /// distance of the focus from `s` in per cent of the radius, and `a` the angle of the focus.
+    GradientFill {
+        hidden: bool,
+        o: Prop<Fx>,
+        s: Prop<Point>,
+        e: Prop<Point>,
+        t: u8,
+        g: Stops,
+        h: Prop<Fx>,
+        a: Prop<Fx>,
+        r: u8,
+    },
+    /// A stroke by a gradient.
+    GradientStroke {
+        hidden: bool,
+        o: Prop<Fx>,
+        s: Prop<Point>,
+        e: Prop<Point>,
+        t: u8,
+        g: Stops,
+        h: Prop<Fx>,
+        a: Prop<Fx>,
+        w: Prop<Fx>,
+        lc: u8,
+        lj: u8,
+        ml: Fx,
+        d: Seq<Dash>,
+    },
+    /// Leaves of the shapes before it the part from `s` to `e`, moved by the angle `o` of the whole: of each shape by
+    /// itself (`m` 1), or of all of them as one (`m` 2).
+    Trim {
+        hidden: bool,
+        s: Prop<Fx>,
+        e: Prop<Fx>,
+        o: Prop<Fx>,
+        m: u8,
+    },
+    /// The transform of the group that it is in.
+    Place {
+        hidden: bool,
+        ks: Transform,
+    },
+}
+
+impl Duplicate for Item {
+    fn copy(&self) -> Result<Item, Memory> {
+        copy_item(self)
+    }
+}
+
+// The recursion over groups: the list's own copy would come back here through the trait.
+fn copy_item(item: &Item) -> Result<Item, Memory>
+    ensures { IfOk result (λ made. made ≡ item.now) }
+{
+    match item {
+        Item::Group { hidden, it } => {
+            let mut made = Seq::new(it.allocator());
+            for x in it.items() {
+                made.push(copy_item(x)?)?;
+            }
+            Ok(Item::Group {
+                hidden: *hidden,
+                it: made,
+            })
+        }
+        Item::Rect { hidden, p, s, r, d } => {
+            let (p, s, r) = copy_three(p, s, r)?;
+            Ok(Item::Rect {
+                hidden: *hidden,
+                p,
+                s,
+                r,
+                d: *d,
+            })
+        }
+        Item::Ellipse { hidden, p, s, d } => {
+            let (p, s) = copy_two(p, s)?;
+            Ok(Item::Ellipse {
+                hidden: *hidden,
+                p,
+                s,
+                d: *d,
+            })
+        }
+        Item::Star {
+            hidden,
+            sy,
+            pt,
+            p,
+            r,
+            or_,
+            os,
+            ir,
+            is_,
+            d,
+        } => {
+            let (pt, p, r) = copy_three(pt, p, r)?;
+            let (or_, os, ir, is_) = copy_four(or_, os, ir, is_)?;
+            Ok(Item::Star {
+                hidden: *hidden,
+                sy: *sy,
+                pt,
+                p,
+                r,
+                or_,
+                os,
+                ir,
+                is_,
+                d: *d,
+            })
+        }
+        Item::Path { hidden, ks, d } => Ok(Item::Path {
+            hidden: *hidden,
+            ks: ks.copy()?,
+            d: *d,
+        }),
+        Item::Fill { hidden, c, o, r } => {
+            let (c, o) = copy_two(c, o)?;
+            Ok(Item::Fill {
+                hidden: *hidden,
+                c,
+                o,
+                r: *r,
+            })
+        }
+        Item::Stroke {
+            hidden,
+            c,
+            o,
+            w,
+            lc,
+            lj,
+            ml,
+            d,
+        } => {
+            let (c, o, w, d) = copy_four(c, o, w, d)?;
+            Ok(Item::Stroke {
+                hidden: *hidden,
+                c,
+                o,
+                w,
+                lc: *lc,
+                lj: *lj,
+                ml: *ml,
+                d,
+            })
+        }
+        Item::GradientFill {
+            hidden,
+            o,
+            s,
+            e,
+            t,
+            g,
+            h,
+            a,
+            r,
+        } => {
+            let (o, s, e) = copy_three(o, s, e)?;
+            let (g, h, a) = copy_three(g, h, a)?;
+            Ok(Item::GradientFill {
+                hidden: *hidden,
+                o,
+                s,
+                e,
+                t: *t,
+                g,
+                h,
+                a,
+                r: *r,
+            })
+        }
+        Item::GradientStroke {
+            hidden,
+            o,
+            s,
+            e,
+            t,
+            g,
+            h,
+            a,
+            w,
+            lc,
+            lj,
+            ml,
+            d,
+        } => {
+            let (o, s, e, g) = copy_four(o, s, e, g)?;
+            let (h, a, w, d) = copy_four(h, a, w, d)?;
+            Ok(Item::GradientStroke {
+                hidden: *hidden,
+                o,
+                s,
+                e,
+                t: *t,
+                g,
+                h,
+                a,
+                w,
+                lc: *lc,
+                lj: *lj,
+                ml: *ml,
+                d,
+            })
+        }
+        Item::Trim { hidden, s, e, o, m } => {
+            let (s, e, o) = copy_three(s, e, o)?;
+            Ok(Item::Trim {
+                hidden: *hidden,
+                s,
+                e,
+                o,
+                m: *m,
+            })
+        }
+        Item::Place { hidden, ks } => Ok(Item::Place {
+            hidden: *hidden,
+            ks: ks.copy()?,
+        }),
+    }
+}
