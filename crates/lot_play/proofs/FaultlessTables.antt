@@ -1,23 +1,23 @@
 -- Each table of the document keeps that a tree without faults has a value.
-use Rattle.std.proofs.Common.{◌≡◌, ◌==◌, ℕ, ℤ, pos, ◌%◌, ◌^◌, false, int_lt, unsigned_abs, List, [], ◌∷◌, Option, Some, None, codes, if◌then◌else◌}
+use Rattle.std.proofs.Common.{◌==◌, ℤ, pos, ◌%◌, ◌^◌, false, int_lt, unsigned_abs, List, [], ◌∷◌, Option, Some, None, codes}
 use Rattle.std.specs.Ordering.{int_eq}
 use Rattle.lot_types.specs.declared.fault.FaultCode.TheVariants.{Kind, Value, Order, Unsupported}
 use Rattle.lot_types.specs.declared.rgb.Rgb.{Rgb}
 use Rattle.lot_types.specs.declared.prop.Prop.TheVariants.{Own, Slot}
-use Rattle.lot_types.specs.declared.prop.Track.TheVariants.{Still, Moving}
+use Rattle.lot_types.specs.declared.prop.Track.TheVariants.{Still}
 use Rattle.lot_types.specs.declared.prop.Position.{Position}
 use Rattle.lot_types.specs.declared.prop.Position.TheVariants.{Whole, Split}
 use Rattle.lot_json.specs.declared.tree.json.Json.{Json, out-Json}
 use Rattle.lot_json.specs.declared.tree.json.Json.TheOpen as tree
 use Rattle.lot_json.specs.declared.tree.pointer.Step.{Step}
-use Rattle.lot_read.specs.Findings.{Findings, under, good, bad}
+use Rattle.lot_read.specs.Findings.{Findings, under, bad}
 use Rattle.lot_read.specs.Number.{any, not_below_zero, above_zero}
 use Rattle.lot_read.specs.Sound.{IsSound, ReadsSoundly, RowsAreSound}
 use Rattle.lot_read.proofs.Sound.{good_sound, bad_sound, if_sound, row_sound, also_sound, then_sound, needed_sound, optional_sound, unbuilt_sound, object_sound, list_sound}
 use Rattle.lot_read.proofs.SoundValues.{number_sound, flag_sound, unset_sound, position_rows_sound}
 use Rattle.lot_read.specs.SlotNames.{Names}
 use Rattle.lot_play.specs.declared.document.canvas.Span.{Span}
-use Rattle.lot_play.specs.Table.{good_or_value, color_of, hex_color, normal_blend, without_items, no_items, left_out, origin, constant, constant_position_rows, transform_rows, solid_rows, layer_rows, solid_or_fault, layer_type, layer, in_order, span_rows, root, document}
+use Rattle.lot_play.specs.Table.{good_or_value, color_of, hex_color, normal_blend, without_items, no_items, left_out, origin, own_track, own_position_rows, transform_rows, solid_rows, layer_rows, solid_or_fault, layer_type, layer, span_rows, root, document}
 
 good_or_value_sound : {A : Type 0} (at : List Step) (o : Option A) → IsSound (good_or_value at o)
 good_or_value_sound at (Some x) = good_sound x
@@ -57,22 +57,21 @@ left_out_sound at m =
     (optional_sound (codes "ef") tt no_items_sound at m))
     (optional_sound (codes "sy") tt no_items_sound at m)
 
-constant_sound : (at : List Step) (p : Position) → IsSound (constant at p)
-constant_sound at (Whole (Own (Still p))) = good_sound p
-constant_sound at (Whole (Own (Moving keys))) = bad_sound Unsupported (under at (codes "k"))
-constant_sound at (Whole (Slot slot)) = bad_sound Unsupported (under at (codes "sid"))
-constant_sound at (Split x y) = bad_sound Unsupported (under at (codes "s"))
+own_track_sound : (at : List Step) (p : Position) → IsSound (own_track at p)
+own_track_sound at (Whole (Own track)) = good_sound track
+own_track_sound at (Whole (Slot slot)) = bad_sound Unsupported (under at (codes "sid"))
+own_track_sound at (Split x y) = bad_sound Unsupported (under at (codes "s"))
 
-constant_position_sound : (names : Names) → RowsAreSound (constant_position_rows names)
-unfolding constant_position_rows
-constant_position_sound names at m = then_sound _ (position_rows_sound names at m) (constant_sound at)
+own_position_sound : (names : Names) → RowsAreSound (own_position_rows names)
+unfolding own_position_rows
+own_position_sound names at m = then_sound _ (position_rows_sound names at m) (own_track_sound at)
 
 transform_sound : (names : Names) → RowsAreSound (transform_rows names)
 unfolding transform_rows
 transform_sound names at m =
     also_sound (also_sound (also_sound (also_sound (also_sound (row_sound (also_sound (good_sound _)
     (unbuilt_sound (codes "a") at m))
-    (optional_sound (codes "p") origin (object_sound (constant_position_sound names)) at m))
+    (optional_sound (codes "p") (Still origin) (object_sound (own_position_sound names)) at m))
     (unbuilt_sound (codes "s") at m))
     (unbuilt_sound (codes "r") at m))
     (unbuilt_sound (codes "o") at m))

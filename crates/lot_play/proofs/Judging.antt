@@ -1,5 +1,5 @@
 -- That there is one answer to a task on a content.
-use Rattle.std.proofs.Common.{◌≡◌, ℕ, ℤ, ◌<◌, ◌≤◌, ◌^◌, ◌-◌, List, [], min, Option, None, Some, Result, Ok, Err, IfOk, inl, inr, sym, refl, ap, ◌∙◌, subst, arith}
+use Rattle.std.proofs.Common.{◌≡◌, ℕ, ℤ, ◌^◌, ◌-◌, List, [], min, Option, None, Some, option_map, Result, Ok, Err, IfOk, inl, inr, sym, refl, ap, ◌∙◌, subst, arith}
 use Rattle.std.proofs.lemmas.Bool.{cases_lt}
 use Rattle.lot_types.specs.declared.fault.Fault.{Fault}
 use Rattle.lot_json.specs.declared.tree.json.Json.{Json}
@@ -15,7 +15,9 @@ use Rattle.lot_play.specs.Table.{document}
 use Rattle.lot_play.specs.Arguments.{IsFrame}
 use Rattle.lot_play.specs.Status.{IsJudged}
 use Rattle.lot_play.specs.Judge.{IsTreeAnswer, for_fault, for_document, IsOnlyAnswer}
-use Rattle.lot_play.specs.Output.{IsAnswerTo, on_no_text, on_fault, on_document, moment, moment_answer, document_answer, fault_answer, syntax_answer}
+use Rattle.lot_play.specs.Output.{IsAnswerTo, on_no_text, on_fault, on_document, moment, drawn_answer, moment_answer, document_answer, fault_answer, syntax_answer}
+use Rattle.lot_play.specs.Frame.{frame_of}
+use Rattle.lot_play.specs.Svg.{svg_of}
 
 pub if_ok : {A E : Type 0} (r : Result A E) (P Q : A → Type 0) → ((x : A) → P x → Q x) → IfOk r P → IfOk r Q
 if_ok (Ok x) P Q f p = f x p
@@ -44,7 +46,8 @@ tree_once j task a b (for_fault f h e) (for_fault g k i) =
 tree_once j task a b (for_fault f h e) (for_document d none v i) = absurd (no_fault j f none h)
 tree_once j task a b (for_document d none v e) (for_fault g k i) = absurd (no_fault j g none k)
 tree_once j task a b (for_document d none v e) (for_document c nil w i) =
-    let same : c ≡ d = (let m = sym w ∙ v in cc) in i ∙ ap (λ (z : Document). document_answer z task) same ∙ sym e
+    let same : c ≡ d = (let m = sym w ∙ v in cc) in
+    let found : Some b ≡ Some a = sym i ∙ ap (λ (z : Document). document_answer z task) same ∙ e in cc
 
 to_answer : (content : List ℕ) (task : Task) (j : Json) (a : Answer) → JsonText content j → IsTreeAnswer j task a → IsAnswerTo content task a
 to_answer content task j a text (for_fault f h e) = on_fault j f text h e
@@ -89,18 +92,26 @@ pub record IsFit (task : Task) (a : Answer) : Type 0 where
   pub judged : IsJudged a.status
   pub usage : a.status ≡ Usage → IsFrame task × (a.bytes ≡ [])
 
-moment_fit : (d : Document) (o : Option ℤ) (task : Task) → IsFrame task → IsFit task (moment_answer d o)
-moment_fit d None task frame = record { judged = tt; usage = λ e. (frame, refl) }
-moment_fit d (Some t) task frame = record { judged = tt; usage = λ e. absurd cc }
+abbrev IsFitWhereSome : Task → Option Answer → Type 0
+IsFitWhereSome task None = Unit {0}
+IsFitWhereSome task (Some a) = IsFit task a
 
-document_fit : (d : Document) (task : Task) → IsFit task (document_answer d task)
+drawn_fit : (svg : Option (List ℕ)) (task : Task) → IsFitWhereSome task (option_map drawn_answer svg)
+drawn_fit None task = tt
+drawn_fit (Some bytes) task = record { judged = tt; usage = λ e. absurd cc }
+
+moment_fit : (d : Document) (o : Option ℤ) (task : Task) → IsFrame task → IsFitWhereSome task (moment_answer d o)
+moment_fit d None task frame = record { judged = tt; usage = λ e. (frame, refl) }
+moment_fit d (Some t) task frame = drawn_fit (svg_of d.canvas (frame_of d t)) task
+
+document_fit : (d : Document) (task : Task) → IsFitWhereSome task (document_answer d task)
 unfolding document_answer
 document_fit d Check = record { judged = tt; usage = λ e. absurd cc }
 document_fit d (Frame time) = moment_fit d (moment d.canvas time) (Frame time) tt
 
 tree_fit : (j : Json) (task : Task) (a : Answer) → IsTreeAnswer j task a → IsFit task a
 tree_fit j task a (for_fault f h e) = subst (λ (z : Answer). IsFit task z) (sym e) (record { judged = tt; usage = λ e. absurd cc })
-tree_fit j task a (for_document d none v e) = subst (λ (z : Answer). IsFit task z) (sym e) (document_fit d task)
+tree_fit j task a (for_document d none v e) = subst (λ (z : Option Answer). IsFitWhereSome task z) e (document_fit d task)
 
 pub tree_judged : {E : Type 0} (r : Result Answer E) (j : Json) (task : Task) → IfOk r (IsTreeAnswer j task) → IfOk r (λ a. IsJudged a.status)
 tree_judged r j task = if_ok r (IsTreeAnswer j task) (λ a. IsJudged a.status) (λ a t. (tree_fit j task a t).judged)
@@ -110,8 +121,8 @@ pub tree_usage : {E : Type 0} (r : Result Answer E) (j : Json) (task : Task) →
 tree_usage r j task = if_ok r (IsTreeAnswer j task) (λ a. a.status ≡ Usage → IsFrame task × (a.bytes ≡ [])) (λ a t. (tree_fit j task a t).usage)
 
 pub is_document : {E : Type 0} (r : Result Answer E) (j : Json) (task : Task) (d : Document) → (document j).faults ≡ [] → (document j).value ≡ Some d
-    → IfOk r (λ a. a ≡ document_answer d task) → IfOk r (IsTreeAnswer j task)
-is_document r j task d none v = if_ok r (λ a. a ≡ document_answer d task) (IsTreeAnswer j task) (λ a e. for_document d none v e)
+    → IfOk r (λ a. document_answer d task ≡ Some a) → IfOk r (IsTreeAnswer j task)
+is_document r j task d none v = if_ok r (λ a. document_answer d task ≡ Some a) (IsTreeAnswer j task) (λ a e. for_document d none v e)
 
 pub is_fault : {E : Type 0} (r : Result Answer E) (j : Json) (task : Task) (f : Fault) → first (document j).faults ≡ Some f
     → IfOk r (λ a. a ≡ fault_answer f) → IfOk r (IsTreeAnswer j task)

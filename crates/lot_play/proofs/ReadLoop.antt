@@ -1,8 +1,8 @@
 -- A loop that reads a content piece by piece.
-use Rattle.std.proofs.Common.{◌≡◌, ℕ, ◌+◌, ◌<◌, ◌≤◌, ◌⊎◌, List, [], ◌++◌, length, take, drop, Some, sym, refl, ap, ◌∙◌, subst, append_assoc, arith, inl, inr, length-append}
+use Rattle.std.proofs.Common.{◌≡◌, ℕ, ◌+◌, ◌<◌, ◌≤◌, List, [], ◌++◌, length, take, drop, Some, sym, refl, ap, ◌∙◌, subst, append_assoc, arith, inl, inr, length-append}
 use Rattle.std.proofs.Math.Seq.{drop-append_seam}
 use Rattle.std.proofs.lemmas.List.{take-append-drop, append-nil, length-take-le, nil_from_length}
-use Rattle.lot_play.specs.Count.{RoseBy, RoseAbove, last}
+use Rattle.lot_play.specs.Count.{RoseBy, RoseAbove}
 use Rattle.lot_play.specs.Folder.{FolderState, SameContents, SameServed, ReadsInto}
 
 -- The bytes are a prefix of the content.

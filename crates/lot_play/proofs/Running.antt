@@ -1,12 +1,12 @@
 -- How a run ends, from how its parts end.
-use Rattle.std.proofs.Common.{◌≡◌, ℕ, ◌+◌, ◌<◌, ◌≤◌, List, [], ◌∷◌, ◌++◌, length, Option, Some, inl, sym, refl, ap, ◌∙◌, subst, arith}
+use Rattle.std.proofs.Common.{◌≡◌, ℕ, ◌<◌, ◌≤◌, List, [], ◌∷◌, ◌++◌, length, Option, Some, sym, refl, ap, ◌∙◌, subst, arith}
 use Rattle.std.proofs.lemmas.List.{append-nil}
 use Rattle.lot_play.specs.declared.answer.Answer.{Answer}
 use Rattle.lot_play.specs.declared.task.Task.{Task}
 use Rattle.lot_play.specs.declared.task.Task.TheVariants.{Check, Frame}
 use Rattle.lot_play.specs.declared.status.Status.{Status}
 use Rattle.lot_play.specs.declared.status.Status.TheVariants.{Done, Refused, Usage, ReadFault, WriteFault, Memory, TooLong}
-use Rattle.lot_play.specs.Arguments.{Arguments, AskFor, AskForNothing, AskOnlyFor}
+use Rattle.lot_play.specs.Arguments.{Arguments, AskForNothing, AskOnlyFor}
 use Rattle.lot_play.specs.Count.{Rose, RoseBy, RoseAbove}
 use Rattle.lot_play.specs.Folder.{FolderState}
 use Rattle.lot_play.specs.Sink.{SinkState, Gains, GainsPrefix}

@@ -1,6 +1,5 @@
 -- What the arguments of the program ask for. The commands are this project's own.
 use Rattle.std.specs.Prelude.{◌≡◌, ℕ, List, [], ◌∷◌, codes}
-use Rattle.lot_json.specs.declared.tree.number.Number.{Number}
 use Rattle.lot_json.specs.NumberToken.{IsNumberToken}
 use Rattle.lot_play.specs.declared.task.Task.{Task}
 use Rattle.lot_play.specs.declared.task.Task.TheVariants.{Check, Frame}

@@ -18,7 +18,7 @@ pub data IsTreeAnswer (j : Json) (task : Task) (answer : Answer) : Type 0 where
   for_document : (d : Document)
       → (document j).faults ≡ []
       → (document j).value ≡ Some d
-      → answer ≡ document_answer d task
+      → document_answer d task ≡ Some answer
       → IsTreeAnswer j task answer
 
 -- The one answer to a task on a content.

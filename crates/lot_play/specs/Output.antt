@@ -1,6 +1,6 @@
 -- The output of the program: which bytes and which status, for all arguments and all contents. The lines and the order
 -- of judgement are this project's own.
-use Rattle.std.specs.Prelude.{◌≡◌, ℕ, ℤ, ◌+◌, ◌≤◌, ◌<◌, ◌&&◌, int_le, int_lt, List, [], ◌∷◌, ◌++◌, length, Option, None, Some, codes, if◌then◌else◌}
+use Rattle.std.specs.Prelude.{◌≡◌, ℕ, ℤ, ◌+◌, ◌≤◌, ◌<◌, ◌&&◌, int_le, int_lt, List, [], ◌∷◌, ◌++◌, length, Option, None, Some, option_map, codes, if◌then◌else◌}
 use Rattle.std.specs.Fmt.{decimal}
 use Rattle.std.specs.List.{All}
 use Rattle.lot_types.specs.declared.fault.Fault.{Fault}
@@ -15,13 +15,12 @@ use Rattle.lot_play.specs.declared.document.canvas.Canvas.{Canvas}
 use Rattle.lot_play.specs.declared.document.Document.{Document}
 use Rattle.lot_play.specs.declared.task.Task.{Task}
 use Rattle.lot_play.specs.declared.task.Task.TheVariants.{Check, Frame}
-use Rattle.lot_play.specs.declared.status.Status.{Status}
 use Rattle.lot_play.specs.declared.status.Status.TheVariants.{Done, Refused, Usage, TooLong}
 use Rattle.lot_play.specs.declared.answer.Answer.{Answer}
 use Rattle.lot_play.specs.Arguments.{Arguments, AskFor, AskForNothing}
 use Rattle.lot_play.specs.Table.{document}
 use Rattle.lot_play.specs.Frame.{frame_of}
-use Rattle.lot_play.specs.Svg.{svg_text}
+use Rattle.lot_play.specs.Svg.{svg_of}
 
 -- The greatest number of bytes of a document.
 abbrev pub max_document_bytes : ℕ
@@ -32,14 +31,20 @@ abbrev pub moment : Canvas → Number → Option ℤ
 moment c (Micro t) = if int_le c.ip t && int_lt t c.op then Some t else None
 moment c Beyond = None
 
+abbrev pub silent_answer : Answer
+silent_answer = record { bytes = []; status = Usage }
+
+abbrev pub drawn_answer : List ℕ → Answer
+drawn_answer svg = record { bytes = svg; status = Done }
+
 -- The SVG of a document at a moment; nothing where the animation does not run.
-abbrev pub moment_answer : Document → Option ℤ → Answer
-moment_answer d None = record { bytes = []; status = Usage }
-moment_answer d (Some t) = record { bytes = svg_text d.canvas (frame_of d t); status = Done }
+abbrev pub moment_answer : Document → Option ℤ → Option Answer
+moment_answer d None = Some silent_answer
+moment_answer d (Some t) = option_map drawn_answer (svg_of d.canvas (frame_of d t))
 
 -- The answer to a task on an accepted document.
-unfoldable pub document_answer : Document → Task → Answer
-document_answer d Check = record { bytes = codes "ok\n"; status = Done }
+unfoldable pub document_answer : Document → Task → Option Answer
+document_answer d Check = Some (record { bytes = codes "ok\n"; status = Done })
 document_answer d (Frame time) = moment_answer d (moment d.canvas time)
 
 -- The line for the first fault of a document: the fault's name, and its JSON pointer.
@@ -73,7 +78,7 @@ pub data IsAnswerTo (content : List ℕ) (task : Task) (answer : Answer) : Type 
       → JsonText content j
       → (document j).faults ≡ []
       → (document j).value ≡ Some d
-      → answer ≡ document_answer d task
+      → document_answer d task ≡ Some answer
       → IsAnswerTo content task answer
 
 -- What a run answers, and the contents that it reads whole, in order.

@@ -2,7 +2,7 @@
 use Rattle.std.specs.Prelude.{◌≡◌, []}
 use Rattle.lot_play.specs.declared.answer.Answer.{Answer}
 use Rattle.lot_play.specs.declared.status.Status.{Status}
-use Rattle.lot_play.specs.declared.status.Status.TheVariants.{Usage, ReadFault, WriteFault, Memory, TooLong}
+use Rattle.lot_play.specs.declared.status.Status.TheVariants.{ReadFault, WriteFault, Memory, TooLong}
 use Rattle.lot_play.specs.Count.{Rose, RoseBy, RoseAbove}
 use Rattle.lot_play.specs.Folder.{FolderState}
 use Rattle.lot_play.specs.Sink.{SinkState, Gains, GainsPrefix}

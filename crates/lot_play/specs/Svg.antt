@@ -1,6 +1,6 @@
 -- The text of a finished frame in SVG 1.1: elements and attributes of the standard, in a layout that is this project's
 -- own. After each '>' of a tag comes one line feed, and there is no other white space between tags.
-use Rattle.std.specs.Prelude.{ℕ, ℤ, pos, ◌+◌, ◌/◌, ◌%◌, ◌^◌, Bool, ◌&&◌, List, [], ◌∷◌, ◌++◌, codes, nat_lt, flat_map, if◌then◌else◌}
+use Rattle.std.specs.Prelude.{ℕ, ℤ, pos, ◌+◌, ◌/◌, ◌%◌, ◌^◌, Bool, ◌&&◌, List, [], ◌∷◌, ◌++◌, codes, nat_lt, Option, None, Some, option_map, flat_map, if◌then◌else◌}
 use Rattle.std.specs.Ordering.{int_eq}
 use Rattle.lot_types.specs.declared.rgb.Rgb.{Rgb}
 use Rattle.lot_types.specs.declared.matrix.Matrix.{Matrix}
@@ -85,15 +85,14 @@ rectangle_text w h =
 unfoldable pub transform_text : Matrix → List ℕ
 transform_text m = if is_identity m then [] else attribute (codes "transform") (matrix_text m)
 
--- A rectangle that is filled with a colour.
-unfoldable pub fill_text : Node → List ℕ
-fill_text n =
-    empty_tag (codes "path")
-    (attribute (codes "fill") (color_text n.rgb) ++ attribute (codes "d") (rectangle_text n.w n.h))
+-- A rectangle of w by h that is filled with a colour.
+unfoldable pub fill_text : Rgb → ℤ → ℤ → List ℕ
+fill_text rgb w h =
+    empty_tag (codes "path") (attribute (codes "fill") (color_text rgb) ++ attribute (codes "d") (rectangle_text w h))
 
 -- A layer: a group with its transform, and its fill in it.
 unfoldable pub node_text : Node → List ℕ
-node_text n = open_tag (codes "g") (transform_text n.matrix) ++ fill_text n ++ close_tag (codes "g")
+node_text n = open_tag (codes "g") (transform_text n.matrix) ++ fill_text n.rgb n.w n.h ++ close_tag (codes "g")
 
 unfoldable pub view_box_text : Canvas → List ℕ
 view_box_text c = codes "0 0 " ++ length_text c.w ++ codes " " ++ length_text c.h
@@ -115,6 +114,14 @@ version_text = attribute (codes "version") (codes "1.1")
 unfoldable pub head_text : Canvas → List ℕ
 head_text c = open_tag (codes "svg") (namespace_text ++ version_text ++ canvas_text c)
 
+-- A text and then that of some nodes, if there are any.
+abbrev pub appended : List ℕ → Option (List Node) → Option (List ℕ)
+appended before None = None
+appended before (Some nodes) = Some (before ++ flat_map node_text nodes)
+
 -- The whole text: the root element with the layers in it.
 abbrev pub svg_text : Canvas → List Node → List ℕ
 svg_text c nodes = head_text c ++ flat_map node_text nodes ++ close_tag (codes "svg")
+
+abbrev pub svg_of : Canvas → Option (List Node) → Option (List ℕ)
+svg_of c nodes = option_map (svg_text c) nodes

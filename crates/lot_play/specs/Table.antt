@@ -7,7 +7,8 @@ use Rattle.lot_types.specs.declared.fault.FaultCode.TheVariants.{Kind, Value, Or
 use Rattle.lot_types.specs.declared.point.Point.{Point}
 use Rattle.lot_types.specs.declared.rgb.Rgb.{Rgb}
 use Rattle.lot_types.specs.declared.prop.Prop.TheVariants.{Own, Slot}
-use Rattle.lot_types.specs.declared.prop.Track.TheVariants.{Still, Moving}
+use Rattle.lot_types.specs.declared.prop.Track.{Track}
+use Rattle.lot_types.specs.declared.prop.Track.TheVariants.{Still}
 use Rattle.lot_types.specs.declared.prop.Position.{Position}
 use Rattle.lot_types.specs.declared.prop.Position.TheVariants.{Whole, Split}
 use Rattle.lot_json.specs.declared.tree.json.Json.{Json, out-Json}
@@ -76,23 +77,22 @@ left_out at m =
 abbrev pub origin : Point
 origin = record { x = pos 0; y = pos 0 }
 
--- The point of a position that is constant. One that moves, comes from a slot or is split into its coordinates is not
--- supported yet.
-abbrev pub constant : List Step → Position → Findings Point
-constant at (Whole (Own (Still p))) = good p
-constant at (Whole (Own (Moving keys))) = bad Unsupported (under at (codes "k"))
-constant at (Whole (Slot slot)) = bad Unsupported (under at (codes "sid"))
-constant at (Split x y) = bad Unsupported (under at (codes "s"))
+-- The track of a position that has one of its own for both coordinates. One that comes from a slot or is split into its
+-- coordinates is not supported yet.
+abbrev pub own_track : List Step → Position → Findings (Track Point)
+own_track at (Whole (Own track)) = good track
+own_track at (Whole (Slot slot)) = bad Unsupported (under at (codes "sid"))
+own_track at (Split x y) = bad Unsupported (under at (codes "s"))
 
-unfoldable pub constant_position_rows : Names → Row Point
-constant_position_rows names at m = position_rows names at m then constant at
+unfoldable pub own_position_rows : Names → Row (Track Point)
+own_position_rows names at m = position_rows names at m then own_track at
 
--- A transform: the translation of the layer.
-unfoldable pub transform_rows : List (List ℕ) → Row Point
+-- A transform: the translation of the layer over time.
+unfoldable pub transform_rows : Names → Row (Track Point)
 transform_rows names at m =
     good (λ p. p)
     also unbuilt (codes "a") at m
-    ⊛ optional (codes "p") (object (constant_position_rows names)) origin at m
+    ⊛ optional (codes "p") (object (own_position_rows names)) (Still origin) at m
     also unbuilt (codes "s") at m
     also unbuilt (codes "r") at m
     also unbuilt (codes "o") at m

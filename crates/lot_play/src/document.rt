@@ -1,4 +1,4 @@
-//! A document: an animation of constant solid layers.
+//! A document: an animation of solid layers.
 pub mod canvas;
 mod color;
 mod feature;

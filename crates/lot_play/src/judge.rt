@@ -1,5 +1,5 @@
 //! The answer to a task on the content of a document.
-ghost use Rattle.std.specs.Prelude.{◌≡◌, [], IfOk};
+ghost use Rattle.std.specs.Prelude.{◌≡◌, [], IfOk, Some};
 ghost use Rattle.lot_play.specs.declared.status.Status.TheVariants.{Usage};
 ghost use Rattle.lot_play.specs.Output.{moment as moment_in, moment_answer, document_answer};
 ghost use Rattle.lot_play.specs.Arguments.{IsFrame};
@@ -44,7 +44,7 @@ fn judge_tree(alloc: Global, j: &Json, task: Task) -> Result<Answer, Memory>
 /// Answers a task on an accepted document.
 #[tactic(auto, unfolding(crate::specs::Output::document_answer))]
 fn perform(alloc: Global, d: &Document, task: Task) -> Result<Answer, Memory>
-    ensures { IfOk result (λ a. a ≡ document_answer d.now task) }
+    ensures { IfOk result (λ a. document_answer d.now task ≡ Some a) }
 {
     match task {
         Task::Check => Answer::line(alloc, "ok\n", Status::Done),
@@ -54,7 +54,7 @@ fn perform(alloc: Global, d: &Document, task: Task) -> Result<Answer, Memory>
 
 /// Answers with the SVG of a document at a time, or with [`Status::Usage`] where the animation does not run.
 fn draw_at(alloc: Global, d: &Document, time: Number) -> Result<Answer, Memory>
-    ensures { IfOk result (λ a. a ≡ moment_answer d.now (moment_in d.now.canvas time)) }
+    ensures { IfOk result (λ a. moment_answer d.now (moment_in d.now.canvas time) ≡ Some a) }
 {
     match moment(&d.canvas, time) {
         Some(t) => Ok(Answer {

@@ -1,6 +1,7 @@
 pub mod Faults
 mod FirstCome
 mod Items
+mod Keyframes
 mod LastPairs
 mod Lengths
 mod MarkedNames

@@ -12,7 +12,7 @@ use Rattle.lot_json.specs.Lookup.{is_null, unless_null, last_value, member}
 use Rattle.lot_read.specs.declared.slot_names.LastPair.{LastPair}
 use Rattle.lot_read.specs.SlotNames.{Names, NamedPair, IsSlotOf, first_come, all_names, is_there, among, later_or_here, last_pair, names_in}
 use Rattle.lot_read.specs.Findings.{Pairs}
-use Rattle.lot_read.specs.NameTable.{last_pair_of, marked_names}
+use Rattle.lot_read.specs.NameTable.{marked_last, marked_names}
 use Rattle.lot_read.proofs.FirstCome.{SameBut, eq_self, equal_back, marked, put, first_come_more, first_come_apart, insert_marked, among_first_come, among_kept}
 
 there_by : (x : Json) (b : Bool) → is_null x ≡ b → is_some (cond b None (Some x)) ≡ not b
@@ -61,7 +61,7 @@ last_more (q ∷ qs) p name =
     ∙ ap (λ (n : ℕ). cond (bytes_eq p.0 name) (Some n) (last_pair name (q ∷ qs))) (add-one (length qs))
 
 last_by : (ps : Pairs) (p : List ℕ × Json) (name : List ℕ) (b : Bool) → bytes_eq p.0 name ≡ b
-    → last_pair_of (ps ++ p ∷ []) name ≡ cond b (record { index = length ps; is_there = not (is_null p.1) }) (last_pair_of ps name)
+    → marked_last (ps ++ p ∷ []) name ≡ cond b (record { index = length ps; is_there = not (is_null p.1) }) (marked_last ps name)
 last_by ps p name b e =
     ap (λ (o : Option ℕ). made_of (unwrap_or o 0) (is_there (ps ++ p ∷ []) name)) (last_more ps p name)
     ∙ ap (λ (c : Bool). made_of (unwrap_or (cond c (Some (length ps)) (last_pair name ps)) 0) (is_there (ps ++ p ∷ []) name)) e
@@ -71,11 +71,11 @@ last_by ps p name b e =
 pub marked_more : (ps : Pairs) (p : List ℕ × Json)
     → insert_entry bytes_eq (marked_names ps) p.0 (made_of (length ps) (not (is_null p.1))) ≡ marked_names (ps ++ p ∷ [])
 marked_more ps p =
-    let itself : last_pair_of (ps ++ p ∷ []) p.0 ≡ made_of (length ps) (not (is_null p.1)) = last_by ps p p.0 true (eq_self p.0) in
-    let same : SameBut p.0 (last_pair_of ps) (last_pair_of (ps ++ p ∷ [])) = λ z e. last_by ps p z false e in
+    let itself : marked_last (ps ++ p ∷ []) p.0 ≡ made_of (length ps) (not (is_null p.1)) = last_by ps p p.0 true (eq_self p.0) in
+    let same : SameBut p.0 (marked_last ps) (marked_last (ps ++ p ∷ [])) = λ z e. last_by ps p z false e in
     ap (λ (last : LastPair). insert_entry bytes_eq (marked_names ps) p.0 last) (sym itself)
-    ∙ insert_marked (last_pair_of ps) (last_pair_of (ps ++ p ∷ [])) p.0 (all_names ps) same (first_come_apart (map (λ q. q.0) ps))
-    ∙ ap (marked (last_pair_of (ps ++ p ∷ []))) (sym (all_names_more ps p))
+    ∙ insert_marked (marked_last ps) (marked_last (ps ++ p ∷ [])) p.0 (all_names ps) same (first_come_apart (map (λ q. q.0) ps))
+    ∙ ap (marked (marked_last (ps ++ p ∷ []))) (sym (all_names_more ps p))
 
 or_true : (b c : Bool) → c ≡ true → (b || c) ≡ true
 or_true true c e = refl
@@ -149,7 +149,7 @@ abbrev slot_of : List ℕ × LastPair → NamedPair
 slot_of e = record { name = e.0; pair = e.1.index }
 
 abbrev pub slots_of : Pairs → Names → List NamedPair
-slots_of ps names = map slot_of (marked (last_pair_of ps) names)
+slots_of ps names = map slot_of (marked (marked_last ps) names)
 
 pub names_of_slots : (ps : Pairs) (names : Names) → names_in (slots_of ps names) ≡ names
 names_of_slots ps [] = refl
@@ -157,7 +157,7 @@ names_of_slots ps (x ∷ xs) = ap (λ (zs : Names). x ∷ zs) (names_of_slots ps
 
 slot_kept_by : (ps : Pairs) (x : List ℕ) (b : Bool) (names : Names) → is_there ps x ≡ b → All (IsSlotOf ps) (slots_of ps names) → All (IsSlotOf ps) (slots_of ps (cond b (x ∷ names) names))
 slot_kept_by ps x true names e h =
-    All-cons (IsSlotOf ps) (slot_of (x, last_pair_of ps x)) (slots_of ps names) (record { there = e; last = there_last ps x e }) h
+    All-cons (IsSlotOf ps) (slot_of (x, marked_last ps x)) (slots_of ps names) (record { there = e; last = there_last ps x e }) h
 slot_kept_by ps x false names e h = h
 
 pub slots_kept : (ps : Pairs) (names : Names) → All (IsSlotOf ps) (slots_of ps (filter (is_there ps) names))

@@ -124,7 +124,7 @@ each_sound sound at i [] = good_sound []
 each_sound {A} sound at i (j ∷ js) =
     row_sound (row_sound (good_sound (λ (x : A) (xs : List A). x ∷ xs)) (sound (item at i) j)) (each_sound sound at (i + 1) js)
 
-at_most_sound : (max : ℕ) (at : List Step) (js : List Json) → IsSound (at_most max at js)
+pub at_most_sound : (max : ℕ) (at : List Step) (js : List Json) → IsSound (at_most max at js)
 at_most_sound max at js = if_sound (nat_lt max (length js)) (bad_sound TooMany at) (good_sound tt)
 
 pub list_sound : {A : Type 0} (max : ℕ) {reader : Reader A} → ReadsSoundly reader → ReadsSoundly (list max reader)

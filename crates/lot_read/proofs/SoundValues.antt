@@ -1,5 +1,5 @@
 -- Each kind of values has a value where it has no fault, and so has each property.
-use Rattle.std.proofs.Common.{ℕ, ℤ, Bool, false, List, [], ◌∷◌, Option, Some, None, refl, if◌then◌else◌}
+use Rattle.std.proofs.Common.{◌+◌, int_lt, ℕ, ℤ, Bool, false, List, [], ◌∷◌, Option, Some, None, refl, if◌then◌else◌}
 use Rattle.std.specs.Prelude.{codes}
 use Rattle.lot_types.specs.declared.fault.FaultCode.TheVariants as code
 use Rattle.lot_types.specs.declared.slot.SlotKind.{SlotKind}
@@ -7,7 +7,7 @@ use Rattle.lot_types.specs.declared.slot.SlotKind.TheVariants as slot_kind
 use Rattle.lot_types.specs.declared.prop.Prop.{Prop}
 use Rattle.lot_types.specs.declared.prop.Prop.TheVariants.{Own}
 use Rattle.lot_types.specs.declared.prop.Track.{Track}
-use Rattle.lot_types.specs.declared.prop.Track.TheVariants.{Still}
+use Rattle.lot_types.specs.declared.prop.Track.TheVariants.{Still, Moving}
 use Rattle.lot_types.specs.declared.prop.Position.TheVariants.{Whole}
 use Rattle.lot_types.specs.declared.point.Point.{Point}
 use Rattle.lot_types.specs.declared.color.Color.{Color}
@@ -24,21 +24,25 @@ use Rattle.lot_read.specs.declared.track.Absence.{Absence}
 use Rattle.lot_read.specs.declared.track.Absence.TheVariants.{Missing, NoValue}
 use Rattle.lot_read.specs.Bezier.{bezier, bezier_rows, as_many, differ, count_in}
 use Rattle.lot_read.specs.Color.{color, three_parts, part}
-use Rattle.lot_read.specs.Findings.{Findings, Reader, Pairs, under, item, good, bad, ◌also◌, ◌on◌}
+use Rattle.lot_read.specs.Findings.{Findings, Reader, Pairs, under, item, good, bad, ◌⊛◌, ◌also◌, ◌then◌, ◌on◌}
 use Rattle.lot_read.specs.Flag.{flag, unset, is_not_zero}
 use Rattle.lot_read.specs.Gradient.{gradient, counted, miscounted}
-use Rattle.lot_read.specs.Lists.{max_list_items, length_of}
+use Rattle.lot_types.specs.declared.key.Key.{Key}
+use Rattle.lot_types.specs.Handles.{Handles, nearest_handles}
+use Rattle.lot_read.specs.Handle.{coordinates, three_of, three_or_refused, for_each_component, handle_rows}
+use Rattle.lot_read.specs.Keyframe.{not_before, time_rows, time_of, start_value, unbuilt_tangents, key_of, key_rows, each_key, some_items, keys}
+use Rattle.lot_read.specs.Lists.{at_most, list, max_list_items, length_of}
 use Rattle.lot_read.specs.Number.{any, in_range, number, scalar}
 use Rattle.lot_read.specs.Position.{position, position_rows, by_split, splits}
-use Rattle.lot_read.specs.Property.{no_expression, slot_found, slot_name, own, by_name, property_rows, property}
+use Rattle.lot_read.specs.Property.{no_expression, slot_found, slot_name, own, by_name, property_rows, property, track_rows}
 use Rattle.lot_read.specs.Rows.{maybe}
 use Rattle.lot_read.specs.SlotNames.{Names, place_of}
 use Rattle.lot_read.specs.Sound.{IsSound, ReadsSoundly, RowsAreSound}
 use Rattle.lot_read.specs.Text.{text}
-use Rattle.lot_read.specs.Track.{track, absent, still, by_flag, moves}
+use Rattle.lot_read.specs.Track.{track, absent, still, moving, by_flag, moves}
 use Rattle.lot_read.specs.Vector.{vector, two_numbers}
 use Rattle.lot_read.specs.Whole.{whole, allowed, allowed_or_refused}
-use Rattle.lot_read.proofs.Sound.{good_sound, bad_sound, if_sound, row_sound, also_sound, then_sound, on_sound, needed_sound, optional_sound, maybe_sound, object_sound, list_sound, value_or_first_sound}
+use Rattle.lot_read.proofs.Sound.{unbuilt_sound, at_most_sound, good_sound, bad_sound, if_sound, row_sound, also_sound, then_sound, on_sound, needed_sound, optional_sound, maybe_sound, object_sound, list_sound, value_or_first_sound}
 
 in_range_sound : (fits : ℤ → Bool) (at : List Step) (n : Number) → IsSound (in_range fits at n)
 in_range_sound fits at (Micro z) = if_sound (fits z) (good_sound z) (bad_sound code.Range at)
@@ -167,19 +171,114 @@ absent_sound NoValue at = bad_sound code.NoValue at
 still_sound : {T : Type 0} {value : Reader T} → ReadsSoundly value → ReadsSoundly (still value)
 still_sound {T} sound at k = row_sound (good_sound (λ (x : T). Still x)) (sound at k)
 
-by_flag_sound : {T : Type 0} {value : Reader T} → ReadsSoundly value → (k : Json) (at : List Step) (a : Option (Option Bool)) → IsSound (by_flag value k at a)
-by_flag_sound sound k at a = if_sound (moves a k) (bad_sound code.Unsupported at) (still_sound sound at k)
+three_sound_by : (at : List Step) (xs : Option (List ℤ)) → IsSound (three_or_refused at xs)
+three_sound_by at (Some xs) = good_sound xs
+three_sound_by at None = bad_sound code.Count at
 
-pub track_sound : {T : Type 0} {value : Reader T} (absence : Absence) → ReadsSoundly value → RowsAreSound (track value absence)
+coordinates_sound : ReadsSoundly coordinates
+unfolding coordinates
+coordinates_sound at j =
+    elim (out-Json j) as (λ v.
+    let found : Findings (List ℤ) = elim v [
+      | tree.Items js ↦ list max_list_items (number any) at j then λ xs. three_or_refused at (three_of xs)
+      | _ ↦ good for_each_component ⊛ number any at j
+    ] in IsSound found) [
+      | tree.Items js ↦ then_sound (λ (xs : List ℤ). three_or_refused at (three_of xs)) (list_sound max_list_items (number_sound any) at j) (λ xs. three_sound_by at (three_of xs))
+      | _ ↦ row_sound (good_sound for_each_component) (number_sound any at j)
+    ]
+
+handle_rows_sound : RowsAreSound handle_rows
+unfolding handle_rows
+handle_rows_sound at m =
+    row_sound (row_sound (good_sound (λ (x y : List ℤ). nearest_handles x y)) (needed_sound (codes "x") coordinates_sound at m))
+    (needed_sound (codes "y") coordinates_sound at m)
+
+not_before_sound : (before : Option ℤ) (at : List Step) (t : ℤ) → IsSound (not_before before at t)
+not_before_sound (Some b) at t = if_sound (int_lt t b) (bad_sound code.Order (under at (codes "t"))) (good_sound t)
+not_before_sound None at t = good_sound t
+
+time_rows_sound : (before : Option ℤ) → RowsAreSound (time_rows before)
+unfolding time_rows
+time_rows_sound before at m = then_sound (not_before before at) (needed_sound (codes "t") (number_sound any) at m) (not_before_sound before at)
+
+start_value_sound : {T : Type 0} {value : Reader T} → ReadsSoundly value → RowsAreSound (start_value value)
+unfolding start_value
+start_value_sound {T} {value} sound at m =
+    elim (member (codes "s") m) as (λ v.
+    let found : Findings T = elim v [ None ↦ bad code.Unsupported at | Some j ↦ value (under at (codes "s")) j ] in IsSound found) [
+      | None ↦ bad_sound code.Unsupported at
+      | Some j ↦ sound (under at (codes "s")) j
+    ]
+
+unbuilt_tangents_sound : (kind : SlotKind) → RowsAreSound (unbuilt_tangents kind)
+unbuilt_tangents_sound slot_kind.Vector at m = also_sound (also_sound (good_sound tt) (unbuilt_sound (codes "to") at m)) (unbuilt_sound (codes "ti") at m)
+unbuilt_tangents_sound slot_kind.Unused at m = good_sound tt
+unbuilt_tangents_sound slot_kind.Scalar at m = good_sound tt
+unbuilt_tangents_sound slot_kind.Color at m = good_sound tt
+unbuilt_tangents_sound slot_kind.Bezier at m = good_sound tt
+unbuilt_tangents_sound (slot_kind.Gradient stops) at m = good_sound tt
+
+key_rows_sound : {T : Type 0} (kind : SlotKind) {value : Reader T} (before : Option ℤ) → ReadsSoundly value → RowsAreSound (key_rows kind value before)
+unfolding key_rows
+key_rows_sound {T} kind before sound at m =
+    also_sound
+    (row_sound
+    (row_sound
+    (row_sound
+    (row_sound
+    (row_sound
+    (good_sound (λ (t : ℤ) (s : T) (h : Bool) (o i : Option Handles). key_of t s h o i))
+    (time_rows_sound before at m))
+    (start_value_sound sound at m))
+    (optional_sound (codes "h") false flag_sound at m))
+    (maybe_sound (codes "o") (object_sound handle_rows_sound) at m))
+    (maybe_sound (codes "i") (object_sound handle_rows_sound) at m))
+    (unbuilt_tangents_sound kind at m)
+
+each_key_sound : {T : Type 0} (kind : SlotKind) {value : Reader T} → ReadsSoundly value → (before : Option ℤ) (at : List Step) (i : ℕ) (js : List Json)
+    → IsSound (each_key kind value before at i js)
+unfolding each_key
+each_key_sound kind sound before at i [] = good_sound []
+each_key_sound {T} kind sound before at i (j ∷ js) =
+    row_sound
+    (row_sound (good_sound (λ (x : Key T) (xs : List (Key T)). x ∷ xs)) (object_sound (key_rows_sound kind before sound) (item at i) j))
+    (each_key_sound kind sound (time_of before (item at i) j) at (i + 1) js)
+
+some_items_sound : (at : List Step) (js : List Json) → IsSound (some_items at js)
+some_items_sound at [] = bad_sound code.Count at
+some_items_sound at (j ∷ js) = good_sound tt
+
+keys_sound : {T : Type 0} (kind : SlotKind) {value : Reader T} → ReadsSoundly value → ReadsSoundly (keys kind value)
+unfolding keys
+keys_sound {T} kind {value} sound at j =
+    elim (out-Json j) as (λ v.
+    let found : Findings (List (Key T)) = elim v [
+      | tree.Items js ↦ good (λ (_ : Unit {0}) (_ : Unit {0}) (ks : List (Key T)). ks) ⊛ at_most max_list_items at js ⊛ some_items at js ⊛ each_key kind value None at 0 js
+      | _ ↦ bad code.Kind at
+    ] in IsSound found) [
+      | tree.Items js ↦
+          row_sound
+          (row_sound (row_sound (good_sound (λ (_ : Unit {0}) (_ : Unit {0}) (ks : List (Key T)). ks)) (at_most_sound max_list_items at js)) (some_items_sound at js))
+          (each_key_sound kind sound None at 0 js)
+      | _ ↦ bad_sound code.Kind at
+    ]
+
+moving_sound : {T : Type 0} (kind : SlotKind) {value : Reader T} → ReadsSoundly value → ReadsSoundly (moving kind value)
+moving_sound {T} kind sound at k = row_sound (good_sound (λ (ks : List (Key T)). Moving ks)) (keys_sound kind sound at k)
+
+by_flag_sound : {T : Type 0} (kind : SlotKind) {value : Reader T} → ReadsSoundly value → (k : Json) (at : List Step) (a : Option (Option Bool)) → IsSound (by_flag kind value k at a)
+by_flag_sound kind sound k at a = if_sound (moves a k) (moving_sound kind sound at k) (still_sound sound at k)
+
+pub track_sound : {T : Type 0} (kind : SlotKind) {value : Reader T} (absence : Absence) → ReadsSoundly value → RowsAreSound (track kind value absence)
 unfolding track
-track_sound {T} {value} absence sound at m =
+track_sound {T} kind {value} absence sound at m =
     elim (member (codes "k") m) as (λ v.
     let found : Findings (Track T) = elim v [
       | None ↦ absent absence at also maybe (codes "a") flag at m
-      | Some k ↦ maybe (codes "a") flag at m on by_flag value k (under at (codes "k"))
+      | Some k ↦ maybe (codes "a") flag at m on by_flag kind value k (under at (codes "k"))
     ] in IsSound found) [
       | None ↦ also_sound (absent_sound absence at) (maybe_sound (codes "a") flag_sound at m)
-      | Some k ↦ on_sound (by_flag value k (under at (codes "k"))) (maybe_sound (codes "a") flag_sound at m) (by_flag_sound sound k (under at (codes "k")))
+      | Some k ↦ on_sound (by_flag kind value k (under at (codes "k"))) (maybe_sound (codes "a") flag_sound at m) (by_flag_sound kind sound k (under at (codes "k")))
     ]
 
 own_sound : {T : Type 0} {found : Findings (Track T)} → IsSound found → IsSound (own found)
@@ -188,9 +287,9 @@ own_sound {T} h = row_sound (good_sound (λ (t : Track T). Own t)) h
 by_name_sound : {T : Type 0} (kind : SlotKind) {value : Reader T} → ReadsSoundly value → (at : List Step) (m : Pairs) (name : Option SlotName)
     → IsSound (by_name kind value at m name)
 by_name_sound kind sound at m (Some (Known slot)) = record { some = λ _. refl }
-by_name_sound kind sound at m (Some Unknown) = own_sound (track_sound NoValue sound at m)
-by_name_sound kind sound at m (Some Unnamed) = own_sound (track_sound Missing sound at m)
-by_name_sound kind sound at m None = own_sound (track_sound Missing sound at m)
+by_name_sound kind sound at m (Some Unknown) = own_sound (track_sound kind NoValue sound at m)
+by_name_sound kind sound at m (Some Unnamed) = own_sound (track_sound kind Missing sound at m)
+by_name_sound kind sound at m None = own_sound (track_sound kind Missing sound at m)
 
 no_expression_sound : ReadsSoundly no_expression
 unfolding no_expression
@@ -217,6 +316,13 @@ property_rows_sound {T} kind names {value} sound at m =
 
 pub property_sound : {T : Type 0} (kind : SlotKind) (names : Names) {value : Reader T} → ReadsSoundly value → ReadsSoundly (property kind names value)
 property_sound kind names sound = object_sound (property_rows_sound kind names sound)
+
+pub track_rows_sound : {T : Type 0} (kind : SlotKind) {value : Reader T} → ReadsSoundly value → RowsAreSound (track_rows kind value)
+unfolding track_rows
+track_rows_sound {T} kind sound at m =
+    row_sound
+    (row_sound (good_sound (λ (_ : Unit {0}) (t : Track T). t)) (optional_sound (codes "x") tt no_expression_sound at m))
+    (track_sound kind Missing sound at m)
 
 by_split_sound : (names : Names) (at : List Step) (m : Pairs) (s : Option Bool) → IsSound (by_split names at m s)
 by_split_sound names at m s =

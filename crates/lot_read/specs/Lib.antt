@@ -3,6 +3,8 @@ pub mod Color
 pub mod Findings
 pub mod Flag
 pub mod Gradient
+pub mod Handle
+pub mod Keyframe
 pub mod Lists
 pub mod Members
 pub mod NameTable

@@ -17,9 +17,9 @@ abbrev pub slots_in : Entries → List NamedPair
 slots_in es = map (λ e. record { name = e.0.items; pair = e.1.index }) es
 
 -- The last pair of a name that is among the members.
-abbrev pub last_pair_of : Pairs → List ℕ → LastPair
-last_pair_of ps name = record { index = unwrap_or (last_pair name ps) 0; is_there = is_there ps name }
+abbrev pub marked_last : Pairs → List ℕ → LastPair
+marked_last ps name = record { index = unwrap_or (last_pair name ps) 0; is_there = is_there ps name }
 
 -- Each name where it first comes, with its last pair.
 abbrev pub marked_names : Pairs → List (List ℕ × LastPair)
-marked_names ps = map (λ name. (name, last_pair_of ps name)) (all_names ps)
+marked_names ps = map (λ name. (name, marked_last ps name)) (all_names ps)

@@ -45,9 +45,9 @@ own found = good (λ t. Own t) ⊛ found
 -- By the name of a slot; one that has a fault is none.
 abbrev pub by_name : {T : Type 0} → SlotKind → Reader T → List Step → Pairs → Option SlotName → Findings (Prop T)
 by_name kind value at m (Some (Known slot)) = use_of_slot kind slot (under at (codes "sid"))
-by_name kind value at m (Some Unknown) = own (track value NoValue at m)
-by_name kind value at m (Some Unnamed) = own (track value Missing at m)
-by_name kind value at m None = own (track value Missing at m)
+by_name kind value at m (Some Unknown) = own (track kind value NoValue at m)
+by_name kind value at m (Some Unnamed) = own (track kind value Missing at m)
+by_name kind value at m None = own (track kind value Missing at m)
 
 unfoldable pub property_rows : {T : Type 0} → SlotKind → Names → Reader T → Row (Prop T)
 property_rows kind names value at m =
@@ -58,3 +58,10 @@ property_rows kind names value at m =
 -- A property of a kind of values.
 abbrev pub property : {T : Type 0} → SlotKind → Names → Reader T → Reader (Prop T)
 property kind names value = object (property_rows kind names value)
+
+-- The value of a slot: a property whose `sid` is not read.
+unfoldable pub track_rows : {T : Type 0} → SlotKind → Reader T → Row (Track T)
+track_rows kind value at m =
+    good (λ _ t. t)
+    ⊛ optional (codes "x") no_expression tt at m
+    ⊛ track kind value Missing at m

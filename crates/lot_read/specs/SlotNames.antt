@@ -11,6 +11,10 @@ use Rattle.lot_read.specs.Findings.{Pairs, ◌>>=◌}
 abbrev pub Names : Type 0
 Names = List (List ℕ)
 
+-- The greatest number of pairs of the object of the slots.
+abbrev pub max_slots : ℕ
+max_slots = 65536
+
 -- Each name once, where it first comes.
 abbrev pub first_come : Names → Names
 first_come [] = []

@@ -2,7 +2,7 @@
 ghost use Rattle.std.specs.Prelude.{◌≡◌, codes};
 ghost use Rattle.lot_read.specs.Findings.{under};
 ghost use Rattle.lot_read.specs.Members.{RowGives, SameMembers};
-ghost use Rattle.lot_read.specs.Property.{no_expression, own, use_of_slot, property_rows};
+ghost use Rattle.lot_read.specs.Property.{no_expression, own, use_of_slot, property_rows, track_rows};
 ghost use Rattle.lot_read.specs.SlotNames.{names_in};
 ghost use Rattle.lot_read.specs.Track.{track};
 
@@ -13,11 +13,11 @@ use crate::slot_names::SlotNames;
 use crate::track::{Absence, read_track};
 use crate::value_kind::ValueKind;
 use lot_json::{Json, Pointer};
-use lot_types::{FaultCode, Prop, Refusal, Seq, SlotKind, Use};
+use lot_types::{FaultCode, Prop, Refusal, Seq, SlotKind, Track, Use};
 
 /// Reads a property of a kind of values: its own value, or the slot that it names among these.
 ///
-/// An expression, which is a text `x`, is [`FaultCode::Unsupported`], and so is what moves. Without `k` the fault is
+/// An expression, which is a text `x`, is [`FaultCode::Unsupported`]. Without `k` the fault is
 /// [`FaultCode::Missing`] there, or [`FaultCode::NoValue`] at a property that names a slot which is not there.
 #[derive(Clone, Copy)]
 pub struct Property<'a, V> {
@@ -42,6 +42,25 @@ impl<'a, V: ValueKind> Rows for Property<'a, V> {
     }
 }
 
+/// Reads the value of a slot: a property of a kind of values whose `sid` is not read. The faults are those of
+/// [`Property`].
+#[derive(Clone, Copy)]
+pub struct TrackOf<V> {
+    pub value: V,
+}
+
+impl<V: ValueKind> Rows for TrackOf<V> {
+    type Value = Track<V::Value>;
+
+    ghost rows = { λ t. track_rows (V.kind t.value) (V.gives t.value) };
+
+    #[tactic(auto, using(crate::proofs::Faults::first_of_prefix), unfolding(crate::specs::Property::track_rows))]
+    fn read_rows(&self, members: &mut Members) -> Result<Track<V::Value>, Refusal> {
+        members.optional("x", &NoExpression, ())?;
+        read_track(&self.value, Absence::Missing, members)
+    }
+}
+
 /// Refuses an expression, which is a text: it is [`FaultCode::Unsupported`]. Any other value is not read.
 #[derive(Clone, Copy)]
 struct NoExpression;
@@ -61,13 +80,13 @@ impl Reader for NoExpression {
 }
 
 /// Reads the value of a property that uses no slot.
-fn read_own<V: Reader>(
+fn read_own<V: ValueKind>(
     value: &V,
     absence: Absence,
     members: &mut Members,
 ) -> Result<Prop<V::Value>, Refusal>
     ensures gives { RowGives result members.old members.new
-        (λ at m. own (track (V.gives value.now) absence at m)) }
+        (λ at m. own (track (V.kind value.now) (V.gives value.now) absence at m)) }
     ensures same { SameMembers members.old members.new }
 {
     let track = read_track(value, absence, members)?;

@@ -4,7 +4,7 @@ ghost use Rattle.std.specs.List.{All};
 ghost use Rattle.indexmap.specs.IndexMap.{index_map_len};
 ghost use Rattle.lot_json.specs.Lookup.{is_null};
 ghost use Rattle.lot_json.specs.declared.tree.json.JsonMembers.{out-JsonMembers};
-ghost use Rattle.lot_read.specs.SlotNames.{names_of, names_in, IsSlotOf, slot_value, value_at as value_in, is_there as there_in, among, place_of};
+ghost use Rattle.lot_read.specs.SlotNames.{max_slots, names_of, names_in, IsSlotOf, slot_value, value_at as value_in, is_there as there_in, among, place_of};
 ghost use Rattle.lot_read.specs.NameTable.{seen, marked_names};
 
 use indexmap::IndexMap;
@@ -33,14 +33,14 @@ pub struct SlotNames {
 impl Model for SlotNames {
     ghost use Rattle.std.specs.Prelude.{◌≤◌, List};
     ghost use Rattle.indexmap.specs.IndexMap.{index_map_len};
-    ghost use Rattle.lot_read.specs.SlotNames.{NamedPair};
+    ghost use Rattle.lot_read.specs.SlotNames.{NamedPair, max_slots};
     ghost use Rattle.lot_read.specs.NameTable.{slots_in};
 
     ghost Value = { List NamedPair };
 
     ghost view = { λ s. slots_in s.names.entries };
 
-    ghost invariant = { λ s. index_map_len s.names ≤ 65536 };
+    ghost invariant = { λ s. index_map_len s.names ≤ max_slots };
 }
 
 impl SlotNames {
@@ -57,7 +57,7 @@ impl SlotNames {
     /// counted.
     #[tactic(auto, unfolding(crate::specs::SlotNames::names_of))]
     pub fn of(alloc: Global, slots: &JsonMembers) -> Result<SlotNames, Memory>
-        requires { length (out-JsonMembers slots.now).pairs ≤ 65536 }
+        requires { length (out-JsonMembers slots.now).pairs ≤ max_slots }
         ensures names { IfOk result (λ s. names_in s ≡ names_of (out-JsonMembers slots.now).pairs) }
         ensures slots { IfOk result (λ s. All (IsSlotOf (out-JsonMembers slots.now).pairs) s) }
         ensures there { IfOk result (λ s. (name : List ℕ) →

@@ -8,8 +8,10 @@ ghost use Rattle.lot_read.specs.Rows.{maybe};
 ghost use Rattle.lot_read.specs.Track.{track, absent, by_flag, moves as moves_in, is_list_of_keys as list_of_keys_in, begins_with_key as key_first_in};
 
 use crate::flag::Flag;
+use crate::keyframe::KeysOf;
 use crate::members::Members;
-use crate::reader::{Reader, refusal_at};
+use crate::reader::refusal_at;
+use crate::value_kind::ValueKind;
 use lot_json::Json;
 use lot_types::{FaultCode, Refusal, Track};
 
@@ -22,14 +24,15 @@ pub enum Absence {
     NoValue,
 }
 
-/// Reads the members `k` and `a` of a property that uses no slot. What moves is [`FaultCode::Unsupported`] at `k`.
+/// Reads the members `k` and `a` of a property that uses no slot. What moves has keyframes.
 #[tactic(auto, using(crate::proofs::Faults::first_of_prefix), unfolding(crate::specs::Track::track, crate::specs::Members::fixed_in))]
-pub(crate) fn read_track<V: Reader>(
+pub(crate) fn read_track<V: ValueKind>(
     value: &V,
     absence: Absence,
     members: &mut Members,
 ) -> Result<Track<V::Value>, Refusal>
-    ensures gives { RowGives result members.old members.new (track (V.gives value.now) absence) }
+    ensures gives { RowGives result members.old members.new
+        (track (V.kind value.now) (V.gives value.now) absence) }
     ensures same { SameMembers members.old members.new }
 {
     match members.members.get("k") {
@@ -51,18 +54,19 @@ fn refuse_absent(absence: Absence, members: &mut Members) -> Refusal
 }
 
 /// Reads the flag `a` and then `k`, which is there.
-fn read_by_flag<V: Reader>(
+fn read_by_flag<V: ValueKind>(
     value: &V,
     k: &Json,
     members: &mut Members,
 ) -> Result<Track<V::Value>, Refusal>
     ensures gives { RowGives result members.old members.new (λ at m.
-        maybe (codes "a") flag at m on by_flag (V.gives value.now) k.now (under at (codes "k"))) }
+        maybe (codes "a") flag at m on by_flag (V.kind value.now) (V.gives value.now) k.now (under at (codes "k"))) }
     ensures same { SameMembers members.old members.new }
 {
     let a = members.maybe("a", &Flag)?;
     if moves(a, k) {
-        return Err(members.refusal_at(FaultCode::Unsupported, "k"));
+        let keys = members.read_value("k", &KeysOf { value }, k)?;
+        return Ok(Track::Moving(keys));
     }
     let x = members.read_value("k", value, k)?;
     Ok(Track::Still(x))

@@ -10,6 +10,8 @@ mod first_frame;
 #[cfg(test)]
 mod in_memory;
 #[cfg(test)]
+mod keyframes;
+#[cfg(test)]
 mod long_numbers;
 #[cfg(test)]
 mod number_tokens;
@@ -25,3 +27,5 @@ mod real_files;
 mod short_sink;
 #[cfg(test)]
 mod syntax_offsets;
+#[cfg(test)]
+mod values;

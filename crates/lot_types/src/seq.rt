@@ -1,6 +1,6 @@
 //! Lists.
 
-ghost use Rattle.std.specs.Prelude.{◌≡◌, [], ◌∷◌, ◌++◌, IfNone, IfSome, OnOk, OnErr};
+ghost use Rattle.std.specs.Prelude.{◌≡◌, [], ◌∷◌, ◌++◌, IfNone, IfOk, IfSome, OnOk, OnErr};
 
 use crate::{Duplicate, Memory};
 use std::alloc::Global;
@@ -31,6 +31,16 @@ impl<T> Seq<T> {
         Seq {
             items: Vec::new(alloc),
         }
+    }
+
+    /// The empty list with room for `capacity` items, which are pushed without more memory. Want of memory is the one
+    /// refusal.
+    pub fn with_capacity(alloc: Global, capacity: usize) -> Result<Seq<T>, Memory>
+        ensures { IfOk result (λ made. made ≡ []) }
+    {
+        Ok(Seq {
+            items: Vec::with_capacity(alloc, capacity)?,
+        })
     }
 
     /// The items in order.
@@ -68,7 +78,7 @@ impl<T: Drop> Seq<T> {
 
 impl<T: Duplicate> Duplicate for Seq<T> {
     fn copy(&self) -> Result<Seq<T>, Memory> {
-        let mut made = Seq::new(*self.items.allocator());
+        let mut made = Seq::with_capacity(*self.items.allocator(), self.items.len())?;
         for x in self.items() {
             made.push(x.copy()?)?;
         }

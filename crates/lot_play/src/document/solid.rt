@@ -1,4 +1,4 @@
-use lot_types::{Fx, Point, Rgb, Time};
+use lot_types::{Fx, Point, Rgb, Time, Track};
 
 /// A rectangle of one colour, of `w` by `h` millionths of a pixel.
 #[derive(Clone, Copy)]
@@ -8,14 +8,14 @@ pub struct Solid {
     pub rgb: Rgb,
 }
 
-/// A layer of one colour: a rectangle of `w` by `h` millionths of a pixel, whose left upper corner is at `position`. It is
-/// visible from `ip`, included, to `op`, excluded, where it is not hidden.
-#[derive(Clone, Copy)]
+/// A layer of one colour: a rectangle of `w` by `h` millionths of a pixel, whose left upper corner is at `position`, which
+/// may change over time. It is visible from `ip`, included, to `op`, excluded, where it is not hidden.
+#[derive(Drop)]
 pub struct SolidLayer {
     pub hidden: bool,
     pub ip: Time,
     pub op: Time,
-    pub position: Point,
+    pub position: Track<Point>,
     pub w: Fx,
     pub h: Fx,
     pub rgb: Rgb,

@@ -1,7 +1,7 @@
 //! The text of a frame.
-ghost use Rattle.std.specs.Prelude.{◌≡◌, ◌++◌, OnOk, IfOk, flat_map};
+ghost use Rattle.std.specs.Prelude.{◌≡◌, ◌++◌, OnOk, IfOk, Some};
 ghost use Rattle.lot_play.specs.Frame.{frame_of, nodes_of, move_by, node, is_visible as visible_at};
-ghost use Rattle.lot_play.specs.Svg.{svg_text, head_text, canvas_text, namespace_text, version_text, node_text, fill_text, transform_text, length_text, attribute, is_identity as identity};
+ghost use Rattle.lot_play.specs.Svg.{svg_of, appended, head_text, canvas_text, namespace_text, version_text, node_text, fill_text, transform_text, length_text, attribute, is_identity as identity};
 
 use crate::document::Document;
 use crate::document::canvas::Canvas;
@@ -10,6 +10,7 @@ use crate::svg::element::{
     end_attribute, end_empty_tag, end_tag, put_attribute, put_close_tag, start_attribute, start_tag,
 };
 use crate::svg::number::{put_color, put_length, put_matrix, put_rectangle, put_view_box};
+use lot_prop::vector_at;
 use lot_types::{Bytes, Fx, Matrix, Memory, Point, Time};
 use std::alloc::Global;
 
@@ -46,7 +47,7 @@ fn put_transform(out: &mut Bytes, m: &Matrix) -> Result<(), Memory>
 /// Writes the rectangle of a layer, filled with its colour.
 #[tactic(auto, unfolding(crate::specs::Svg::attribute, crate::specs::Svg::fill_text))]
 fn put_fill(out: &mut Bytes, layer: &SolidLayer) -> Result<(), Memory>
-    ensures { OnOk result (out.new ≡ out.old ++ fill_text (node layer.now)) }
+    ensures { OnOk result (out.new ≡ out.old ++ fill_text layer.now.rgb layer.now.w layer.now.h) }
 {
     start_tag(out, "path")?;
     start_attribute(out, "fill")?;
@@ -58,13 +59,13 @@ fn put_fill(out: &mut Bytes, layer: &SolidLayer) -> Result<(), Memory>
     end_empty_tag(out)
 }
 
-/// Writes a layer: a group with its transform, and its fill in it.
+/// Writes a layer at a position: a group with its transform, and its fill in it.
 #[tactic(auto, unfolding(crate::specs::Svg::node_text))]
-fn put_layer(out: &mut Bytes, layer: &SolidLayer) -> Result<(), Memory>
-    ensures { OnOk result (out.new ≡ out.old ++ node_text (node layer.now)) }
+fn put_layer(out: &mut Bytes, layer: &SolidLayer, position: Point) -> Result<(), Memory>
+    ensures { OnOk result (out.new ≡ out.old ++ node_text (node layer.now position)) }
 {
     start_tag(out, "g")?;
-    put_transform(out, &moved_by(layer.position))?;
+    put_transform(out, &moved_by(position))?;
     end_tag(out)?;
     put_fill(out, layer)?;
     put_close_tag(out, "g")
@@ -78,13 +79,14 @@ fn is_visible(layer: &SolidLayer, t: Time) -> bool
 
 /// Writes the visible layers from the last to the first.
 fn put_layers(out: &mut Bytes, layers: &[SolidLayer], t: Time) -> Result<(), Memory>
-    ensures { OnOk result (out.new ≡ out.old ++ flat_map node_text (nodes_of t layers.now)) }
+    ensures { OnOk result (appended out.old (nodes_of t layers.now) ≡ Some out.new) }
 {
     let mut i = layers.len();
     while i > 0 {
         i -= 1;
-        if is_visible(&layers[i], t) {
-            put_layer(out, &layers[i])?;
+        let layer = &layers[i];
+        if is_visible(layer, t) {
+            put_layer(out, layer, vector_at(&layer.position, t))?;
         }
     }
     Ok(())
@@ -142,7 +144,7 @@ fn put_head(out: &mut Bytes, c: &Canvas) -> Result<(), Memory>
 
 /// Draws the frame of a document at a time, in millionths of a frame, as SVG.
 pub fn draw_frame(alloc: Global, d: &Document, t: Time) -> Result<Bytes, Memory>
-    ensures { IfOk result (λ svg. svg ≡ svg_text d.now.canvas (frame_of d.now t)) }
+    ensures { IfOk result (λ svg. svg_of d.now.canvas (frame_of d.now t) ≡ Some svg) }
 {
     let mut out = Bytes::new(alloc);
     put_head(&mut out, &d.canvas)?;

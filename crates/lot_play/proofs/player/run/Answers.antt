@@ -1,5 +1,4 @@
-use Rattle.std.proofs.Common.{◌≡◌, [], ◌+◌, List, ℕ, refl, sym, ap, inl, inr, subst, arith}
-use Rattle.lot_play.specs.declared.answer.Answer.{Answer}
+use Rattle.std.proofs.Common.{[], refl, sym, ap, inl, inr, subst, arith}
 use Rattle.lot_play.specs.Count.{RoseBy}
 use Rattle.lot_play.specs.Sink.{Gains}
 use Rattle.lot_play.specs.Output.{Outcome, on_no_command, total_length}

@@ -1,6 +1,6 @@
-use Rattle.std.proofs.Common.{ap, ◌∙◌, arith, rules, sym, subst, List, ℕ, ◌<◌, ◌≤◌, length, ◌≡◌, ◌++◌, take, Some}
+use Rattle.std.proofs.Common.{ap, ◌∙◌, arith, rules, sym, subst, List, ℕ, ◌≤◌, length, ◌≡◌, ◌++◌, take, Some}
 use Rattle.lot_play.specs.Folder.{ReadsInto}
-use Rattle.lot_play.proofs.ReadLoop.{none_read, more_read, ends_read, served_on, IsRead}
+use Rattle.lot_play.proofs.ReadLoop.{none_read, more_read, served_on, IsRead}
 use Rattle.lot_play.proofs.reading.read_all.Goals as goal
 
 pub loop-n-init : goal.loop-n-init

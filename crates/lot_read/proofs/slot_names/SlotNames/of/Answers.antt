@@ -4,7 +4,7 @@ use Rattle.indexmap.proofs.CallerLemmas.{filter-RetainsPairs}
 use Rattle.lot_json.specs.declared.tree.json.JsonMembers.{out-JsonMembers}
 use Rattle.lot_read.specs.declared.slot_names.LastPair.{LastPair}
 use Rattle.lot_read.specs.Findings.{Pairs}
-use Rattle.lot_read.specs.NameTable.{slots_in, last_pair_of}
+use Rattle.lot_read.specs.NameTable.{slots_in, marked_last}
 use Rattle.lot_read.specs.SlotNames.{NamedPair, IsSlotOf, names_of, names_in, all_names, is_there, among}
 use Rattle.lot_read.proofs.FirstCome.{marked_kept}
 use Rattle.lot_read.proofs.MarkedNames.{named_there, slots_of, names_of_slots, slots_kept}
@@ -23,7 +23,7 @@ returns c =
     ∙ ap (λ (z : List (List ℕ × LastPair)). map (λ e. record { name = e.0; pair = e.1.index }) z) (
     seen_kept c.in_ok-names.names.entries
     ∙ ap (λ (z : List (List ℕ × LastPair)). filter (λ e. e.1.is_there) z) c.in_ok-names.ensures.names
-    ∙ marked_kept (last_pair_of c.pairs.result.now) (λ (last : LastPair). last.is_there) (all_names c.pairs.result.now))
+    ∙ marked_kept (marked_last c.pairs.result.now) (λ (last : LastPair). last.is_there) (all_names c.pairs.result.now))
     ∙ ap (λ (z : Pairs). slots_of z (filter (is_there z) (all_names z))) c.pairs.ensures in
     let names : names_in (slots_in c.retain.new.self.entries) ≡ filter (is_there pairs) (all_names pairs) =
     ap names_in slots ∙ names_of_slots pairs (filter (is_there pairs) (all_names pairs)) in

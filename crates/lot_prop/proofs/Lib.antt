@@ -1,0 +1,5 @@
+mod LeastSteps
+mod Limits
+mod InForceAt
+mod Timeline
+mod Founds

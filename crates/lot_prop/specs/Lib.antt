@@ -1,0 +1,6 @@
+pub mod LeastStep
+pub mod InForce
+pub mod Eased
+pub mod Value
+pub mod Slots
+pub mod Found
