@@ -1,5 +1,9 @@
 pub mod Curves
 pub mod EndZeros
 pub mod LastDigits
+pub mod Least
+pub mod Limits
 pub mod Nearest
 pub mod Pieces
+pub mod Squares
+pub mod Straight

@@ -97,3 +97,11 @@ rnd_nearest (pos n) (pos (suc d)) nonzero = both_positive n (suc d) (omega arith
 rnd_nearest (pos n) (negsuc d) nonzero = negate_y (pos n) (pos (suc d)) _ (both_positive n (suc d) (omega arith))
 rnd_nearest (negsuc n) (pos (suc d)) nonzero = negate_x (pos (suc n)) (pos (suc d)) _ (both_positive (suc n) (suc d) (omega arith))
 rnd_nearest (negsuc n) (negsuc d) nonzero = negate_both (pos (suc n)) (pos (suc d)) _ (both_positive (suc n) (suc d) (omega arith))
+
+-- ---- a bound
+
+pub nearest_within : (n d m : ℕ) → 0 < d → n ≤ m * d → nearest n d ≤ m
+nearest_within n d m positive h = elim (cases_lt m (nearest n d)) [
+  | inl more ↦ absurd (omega (arith, h, below n d positive, multiples_apart d m (nearest n d) more))
+  | inr less ↦ less
+]

@@ -28,3 +28,7 @@ abbrev pub limit : ℤ → ℤ
 limit x =
     if int_lt x (neg_ℤ (pos max_millionths)) then neg_ℤ (pos max_millionths)
     else (if int_lt (pos max_millionths) x then pos max_millionths else x)
+
+-- The product of two numbers of millionths, limited to the range.
+abbrev pub product : ℤ → ℤ → ℤ
+product a b = limit (rnd (a *ℤ b) (pos (10 ^ 6)))

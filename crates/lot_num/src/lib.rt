@@ -5,10 +5,14 @@
 //! The rules are this project's own.
 #![tactic(auto)]
 
+mod angle;
 mod digits;
 mod easing;
+mod root;
 mod round;
 
+pub use angle::{cos_fx, sin_fx, tan_fx};
 pub use digits::print_fx;
 pub use easing::{Grid, Handle, ease, ease_linear};
-pub use round::{clamp_fx, rnd_div};
+pub use root::isqrt;
+pub use round::{clamp_fx, mul_fx, rnd_div};

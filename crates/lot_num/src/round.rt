@@ -1,10 +1,10 @@
 //! Rounding to the nearest whole number, and limiting a number to the range.
 
 ghost use Rattle.std.specs.Prelude.{◌≡◌, ◌≢◌, pos, unsigned_abs, ◌^◌, ◌<◌, ◌≤◌};
-ghost use Rattle.lot_num.specs.Round.{nearest, rnd, max_millionths, limit, IsNearest};
+ghost use Rattle.lot_num.specs.Round.{nearest, rnd, max_millionths, limit, product, IsNearest};
 
 /// The greatest magnitude in range: ten million, in millionths.
-const MAX_MILLIONTHS: i128 = 10_000_000_000_000;
+pub(crate) const MAX_MILLIONTHS: i64 = 10_000_000_000_000;
 
 /// The whole number nearest to `x / y`, and of two equally near ones the one with the greater magnitude: `5 / 2` gives
 /// 3, and `-5 / 2` gives -3.
@@ -25,7 +25,15 @@ pub fn rnd_div(x: i128, y: i128) -> i128
 pub fn clamp_fx(x: i128) -> i64
     ensures { result ≡ limit x }
 {
-    x.clamp(-MAX_MILLIONTHS, MAX_MILLIONTHS) as i64
+    let max = MAX_MILLIONTHS as i128;
+    x.clamp(-max, max) as i64
+}
+
+/// The product of two numbers of millionths, in millionths: rounded as [`rnd_div`] rounds, and limited to the range.
+pub fn mul_fx(a: i64, b: i64) -> i64
+    ensures { result ≡ product a b }
+{
+    clamp_fx(rounded(a as i128 * b as i128, 1_000_000))
 }
 
 // `rnd_div` for every `x` but the least `i128`, whose magnitude is no `i128`.
@@ -50,7 +58,7 @@ pub(crate) fn rounded_to(v: i64, unit: u64) -> i64
     if v < 0 { -size } else { size }
 }
 
-fn nearest_u128(n: u128, d: u128) -> u128
+pub(crate) fn nearest_u128(n: u128, d: u128) -> u128
     requires { 0 < d }
     ensures value { result ≡ nearest n d }
     ensures small { result ≤ n }

@@ -3,10 +3,7 @@ use Rattle.std.proofs.Common.{◌==◌, ℤ, pos, ◌%◌, ◌^◌, false, int_l
 use Rattle.std.specs.Ordering.{int_eq}
 use Rattle.lot_types.specs.declared.fault.FaultCode.TheVariants.{Kind, Value, Order, Unsupported}
 use Rattle.lot_types.specs.declared.rgb.Rgb.{Rgb}
-use Rattle.lot_types.specs.declared.prop.Prop.TheVariants.{Own, Slot}
-use Rattle.lot_types.specs.declared.prop.Track.TheVariants.{Still}
-use Rattle.lot_types.specs.declared.prop.Position.{Position}
-use Rattle.lot_types.specs.declared.prop.Position.TheVariants.{Whole, Split}
+use Rattle.lot_types.specs.declared.transform.Transform.{Transform}
 use Rattle.lot_json.specs.declared.tree.json.Json.{Json, out-Json}
 use Rattle.lot_json.specs.declared.tree.json.Json.TheOpen as tree
 use Rattle.lot_json.specs.declared.tree.pointer.Step.{Step}
@@ -14,10 +11,13 @@ use Rattle.lot_read.specs.Findings.{Findings, under, bad}
 use Rattle.lot_read.specs.Number.{any, not_below_zero, above_zero}
 use Rattle.lot_read.specs.Sound.{IsSound, ReadsSoundly, RowsAreSound}
 use Rattle.lot_read.proofs.Sound.{good_sound, bad_sound, if_sound, row_sound, also_sound, then_sound, needed_sound, optional_sound, unbuilt_sound, object_sound, list_sound}
-use Rattle.lot_read.proofs.SoundValues.{number_sound, flag_sound, unset_sound, position_rows_sound}
+use Rattle.lot_read.proofs.SoundValues.{number_sound, flag_sound, unset_sound}
+use Rattle.lot_read.proofs.SoundTransform.{transform_rows_sound}
 use Rattle.lot_read.specs.SlotNames.{Names}
-use Rattle.lot_play.specs.declared.document.canvas.Span.{Span}
-use Rattle.lot_play.specs.Table.{good_or_value, color_of, hex_color, normal_blend, without_items, no_items, left_out, origin, own_track, own_position_rows, transform_rows, solid_rows, layer_rows, solid_or_fault, layer_type, layer, span_rows, root, document}
+use Rattle.lot_play.specs.declared.document.solid.Solid.{Solid}
+use Rattle.lot_play.specs.declared.document.span.Span.{Span}
+use Rattle.lot_play.specs.OwnTransform.{names_no_slot}
+use Rattle.lot_play.specs.Table.{good_or_value, color_of, hex_color, normal_blend, without_items, no_items, left_out, own_transform, own_transform_rows, solid_rows, shown_rows, content_rows, layer_rows, solid_or_fault, layer_type, layer, span_rows, root_rows, document}
 
 good_or_value_sound : {A : Type 0} (at : List Step) (o : Option A) → IsSound (good_or_value at o)
 good_or_value_sound at (Some x) = good_sound x
@@ -57,26 +57,12 @@ left_out_sound at m =
     (optional_sound (codes "ef") tt no_items_sound at m))
     (optional_sound (codes "sy") tt no_items_sound at m)
 
-own_track_sound : (at : List Step) (p : Position) → IsSound (own_track at p)
-own_track_sound at (Whole (Own track)) = good_sound track
-own_track_sound at (Whole (Slot slot)) = bad_sound Unsupported (under at (codes "sid"))
-own_track_sound at (Split x y) = bad_sound Unsupported (under at (codes "s"))
+own_transform_sound : (at : List Step) (ks : Transform) → IsSound (own_transform at ks)
+own_transform_sound at ks = if_sound (names_no_slot ks) (good_sound ks) (bad_sound Unsupported at)
 
-own_position_sound : (names : Names) → RowsAreSound (own_position_rows names)
-unfolding own_position_rows
-own_position_sound names at m = then_sound _ (position_rows_sound names at m) (own_track_sound at)
-
-transform_sound : (names : Names) → RowsAreSound (transform_rows names)
-unfolding transform_rows
-transform_sound names at m =
-    also_sound (also_sound (also_sound (also_sound (also_sound (row_sound (also_sound (good_sound _)
-    (unbuilt_sound (codes "a") at m))
-    (optional_sound (codes "p") (Still origin) (object_sound (own_position_sound names)) at m))
-    (unbuilt_sound (codes "s") at m))
-    (unbuilt_sound (codes "r") at m))
-    (unbuilt_sound (codes "o") at m))
-    (unbuilt_sound (codes "sk") at m))
-    (unbuilt_sound (codes "sa") at m)
+own_transform_rows_sound : (names : Names) → RowsAreSound (own_transform_rows names)
+unfolding own_transform_rows
+own_transform_rows_sound names at m = then_sound _ (transform_rows_sound names at m) (own_transform_sound at)
 
 solid_sound : RowsAreSound solid_rows
 unfolding solid_rows
@@ -86,10 +72,22 @@ solid_sound at m =
     (needed_sound (codes "sh") (number_sound not_below_zero) at m))
     (needed_sound (codes "sc") color_sound at m)
 
+shown_sound : RowsAreSound shown_rows
+unfolding shown_rows
+shown_sound at m =
+    row_sound (also_sound (good_sound (λ (solid : Solid). solid)) (unbuilt_sound (codes "masksProperties") at m)) (solid_sound at m)
+
+content_sound : (names : Names) → RowsAreSound (content_rows names)
+unfolding content_rows
+content_sound names at m =
+    row_sound (row_sound (good_sound _)
+    (needed_sound (codes "ks") (object_sound (own_transform_rows_sound names)) at m))
+    (shown_sound at m)
+
 layer_rows_sound : (names : Names) → RowsAreSound (layer_rows names)
 unfolding layer_rows
 layer_rows_sound names at m =
-    row_sound (also_sound (row_sound (also_sound (also_sound (also_sound (row_sound (row_sound (also_sound (also_sound (row_sound (also_sound (good_sound _)
+    row_sound (also_sound (also_sound (also_sound (row_sound (row_sound (also_sound (also_sound (row_sound (also_sound (good_sound _)
     (left_out_sound at m))
     (optional_sound (codes "hd") false flag_sound at m))
     (unbuilt_sound (codes "ind") at m))
@@ -99,9 +97,7 @@ layer_rows_sound names at m =
     (unbuilt_sound (codes "td") at m))
     (unbuilt_sound (codes "tt") at m))
     (unbuilt_sound (codes "tp") at m))
-    (needed_sound (codes "ks") (object_sound (transform_sound names)) at m))
-    (unbuilt_sound (codes "masksProperties") at m))
-    (solid_sound at m)
+    (content_sound names at m)
 
 solid_or_fault_sound : (at : List Step) (z : ℤ) → IsSound (solid_or_fault at z)
 solid_or_fault_sound at z =
@@ -124,10 +120,10 @@ span_sound at m =
     (needed_sound (codes "op") (number_sound any) at m))
     (λ (span : Span). if_sound (int_lt span.ip span.op) (good_sound span) (bad_sound Order (under at (codes "op"))))
 
-root_sound : (names : Names) → RowsAreSound (root names)
-unfolding root
+root_sound : (names : Names) → RowsAreSound (root_rows names)
+unfolding root_rows
 root_sound names at m =
-    row_sound (also_sound (also_sound (row_sound (also_sound (row_sound (row_sound (good_sound _)
+    row_sound (also_sound (also_sound (row_sound (row_sound (row_sound (row_sound (good_sound _)
     (needed_sound (codes "w") (number_sound not_below_zero) at m))
     (needed_sound (codes "h") (number_sound not_below_zero) at m))
     (needed_sound (codes "fr") (number_sound above_zero) at m))

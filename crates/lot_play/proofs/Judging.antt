@@ -102,12 +102,12 @@ drawn_fit (Some bytes) task = record { judged = tt; usage = λ e. absurd cc }
 
 moment_fit : (d : Document) (o : Option ℤ) (task : Task) → IsFrame task → IsFitWhereSome task (moment_answer d o)
 moment_fit d None task frame = record { judged = tt; usage = λ e. (frame, refl) }
-moment_fit d (Some t) task frame = drawn_fit (svg_of d.canvas (frame_of d t)) task
+moment_fit d (Some t) task frame = drawn_fit (svg_of d.doc (frame_of d t)) task
 
 document_fit : (d : Document) (task : Task) → IsFitWhereSome task (document_answer d task)
 unfolding document_answer
 document_fit d Check = record { judged = tt; usage = λ e. absurd cc }
-document_fit d (Frame time) = moment_fit d (moment d.canvas time) (Frame time) tt
+document_fit d (Frame time) = moment_fit d (moment d.doc time) (Frame time) tt
 
 tree_fit : (j : Json) (task : Task) (a : Answer) → IsTreeAnswer j task a → IsFit task a
 tree_fit j task a (for_fault f h e) = subst (λ (z : Answer). IsFit task z) (sym e) (record { judged = tt; usage = λ e. absurd cc })

@@ -4,6 +4,7 @@ pub mod Sink
 pub mod RealFolder
 pub mod RealSink
 pub mod Status
+pub mod OwnTransform
 pub mod Table
 pub mod Frame
 pub mod Svg

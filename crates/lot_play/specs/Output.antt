@@ -11,7 +11,7 @@ use Rattle.lot_json.specs.declared.tree.json.Json.{Json}
 use Rattle.lot_json.specs.Grammar.{JsonText}
 use Rattle.lot_json.specs.Viable.{IsJsonText, IsSyntaxOffset}
 use Rattle.lot_read.specs.Outcome.{first}
-use Rattle.lot_play.specs.declared.document.canvas.Canvas.{Canvas}
+use Rattle.lot_types.specs.declared.doc.Doc.{Doc}
 use Rattle.lot_play.specs.declared.document.Document.{Document}
 use Rattle.lot_play.specs.declared.task.Task.{Task}
 use Rattle.lot_play.specs.declared.task.Task.TheVariants.{Check, Frame}
@@ -27,9 +27,9 @@ abbrev pub max_document_bytes : ℕ
 max_document_bytes = 16777216
 
 -- The time, where the animation runs at it: from its first frame to before its end.
-abbrev pub moment : Canvas → Number → Option ℤ
-moment c (Micro t) = if int_le c.ip t && int_lt t c.op then Some t else None
-moment c Beyond = None
+abbrev pub moment : Doc → Number → Option ℤ
+moment d (Micro t) = if int_le d.ip t && int_lt t d.op then Some t else None
+moment d Beyond = None
 
 abbrev pub silent_answer : Answer
 silent_answer = record { bytes = []; status = Usage }
@@ -40,12 +40,12 @@ drawn_answer svg = record { bytes = svg; status = Done }
 -- The SVG of a document at a moment; nothing where the animation does not run.
 abbrev pub moment_answer : Document → Option ℤ → Option Answer
 moment_answer d None = Some silent_answer
-moment_answer d (Some t) = option_map drawn_answer (svg_of d.canvas (frame_of d t))
+moment_answer d (Some t) = option_map drawn_answer (svg_of d.doc (frame_of d t))
 
 -- The answer to a task on an accepted document.
 unfoldable pub document_answer : Document → Task → Option Answer
 document_answer d Check = Some (record { bytes = codes "ok\n"; status = Done })
-document_answer d (Frame time) = moment_answer d (moment d.canvas time)
+document_answer d (Frame time) = moment_answer d (moment d.doc time)
 
 -- The line for the first fault of a document: the fault's name, and its JSON pointer.
 unfoldable pub fault_line : Fault → List ℕ

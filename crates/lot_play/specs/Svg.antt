@@ -2,10 +2,10 @@
 -- own. After each '>' of a tag comes one line feed, and there is no other white space between tags.
 use Rattle.std.specs.Prelude.{ℕ, ℤ, pos, ◌+◌, ◌/◌, ◌%◌, ◌^◌, Bool, ◌&&◌, List, [], ◌∷◌, ◌++◌, codes, nat_lt, Option, None, Some, option_map, flat_map, if◌then◌else◌}
 use Rattle.std.specs.Ordering.{int_eq}
+use Rattle.lot_types.specs.declared.doc.Doc.{Doc}
 use Rattle.lot_types.specs.declared.rgb.Rgb.{Rgb}
 use Rattle.lot_types.specs.declared.matrix.Matrix.{Matrix}
 use Rattle.lot_num.specs.Digits.{printed}
-use Rattle.lot_play.specs.declared.document.canvas.Canvas.{Canvas}
 use Rattle.lot_play.specs.Frame.{Node}
 
 -- What comes before the value of an attribute.
@@ -47,6 +47,10 @@ length_text v = printed v 3
 unfoldable pub entry_text : ℤ → List ℕ
 entry_text v = printed v 6
 
+-- A fraction, with at most six digits after the point.
+unfoldable pub fraction_text : ℤ → List ℕ
+fraction_text v = printed v 6
+
 -- A hexadecimal digit in lower case.
 abbrev pub hex_text : ℕ → ℕ
 hex_text n = if nat_lt n 10 then 48 + n else 87 + n
@@ -85,23 +89,29 @@ rectangle_text w h =
 unfoldable pub transform_text : Matrix → List ℕ
 transform_text m = if is_identity m then [] else attribute (codes "transform") (matrix_text m)
 
+-- The opacity of a layer, left out where it is 1.
+unfoldable pub opacity_text : ℤ → List ℕ
+opacity_text o = if int_eq o (pos (10 ^ 6)) then [] else attribute (codes "opacity") (fraction_text o)
+
 -- A rectangle of w by h that is filled with a colour.
 unfoldable pub fill_text : Rgb → ℤ → ℤ → List ℕ
 fill_text rgb w h =
     empty_tag (codes "path") (attribute (codes "fill") (color_text rgb) ++ attribute (codes "d") (rectangle_text w h))
 
--- A layer: a group with its transform, and its fill in it.
+-- A layer: a group with its transform and its opacity, and its fill in it.
 unfoldable pub node_text : Node → List ℕ
-node_text n = open_tag (codes "g") (transform_text n.matrix) ++ fill_text n.rgb n.w n.h ++ close_tag (codes "g")
+node_text n =
+    open_tag (codes "g") (transform_text n.matrix ++ opacity_text n.opacity) ++ fill_text n.rgb n.w n.h
+    ++ close_tag (codes "g")
 
-unfoldable pub view_box_text : Canvas → List ℕ
-view_box_text c = codes "0 0 " ++ length_text c.w ++ codes " " ++ length_text c.h
+unfoldable pub view_box_text : Doc → List ℕ
+view_box_text d = codes "0 0 " ++ length_text d.w ++ codes " " ++ length_text d.h
 
 -- The size of an animation, and the part of the plane that it shows.
-unfoldable pub canvas_text : Canvas → List ℕ
-canvas_text c =
-    attribute (codes "width") (length_text c.w) ++ attribute (codes "height") (length_text c.h)
-    ++ attribute (codes "viewBox") (view_box_text c)
+unfoldable pub size_text : Doc → List ℕ
+size_text d =
+    attribute (codes "width") (length_text d.w) ++ attribute (codes "height") (length_text d.h)
+    ++ attribute (codes "viewBox") (view_box_text d)
 
 -- The namespace and the version of the standard.
 unfoldable pub namespace_text : List ℕ
@@ -111,8 +121,8 @@ unfoldable pub version_text : List ℕ
 version_text = attribute (codes "version") (codes "1.1")
 
 -- The tag that opens the root element.
-unfoldable pub head_text : Canvas → List ℕ
-head_text c = open_tag (codes "svg") (namespace_text ++ version_text ++ canvas_text c)
+unfoldable pub head_text : Doc → List ℕ
+head_text d = open_tag (codes "svg") (namespace_text ++ version_text ++ size_text d)
 
 -- A text and then that of some nodes, if there are any.
 abbrev pub appended : List ℕ → Option (List Node) → Option (List ℕ)
@@ -120,8 +130,8 @@ appended before None = None
 appended before (Some nodes) = Some (before ++ flat_map node_text nodes)
 
 -- The whole text: the root element with the layers in it.
-abbrev pub svg_text : Canvas → List Node → List ℕ
-svg_text c nodes = head_text c ++ flat_map node_text nodes ++ close_tag (codes "svg")
+abbrev pub svg_text : Doc → List Node → List ℕ
+svg_text d nodes = head_text d ++ flat_map node_text nodes ++ close_tag (codes "svg")
 
-abbrev pub svg_of : Canvas → Option (List Node) → Option (List ℕ)
-svg_of c nodes = option_map (svg_text c) nodes
+abbrev pub svg_of : Doc → Option (List Node) → Option (List ℕ)
+svg_of d nodes = option_map (svg_text d) nodes

@@ -4,13 +4,9 @@
 use Rattle.std.specs.Prelude.{◌==◌, ℕ, ℤ, pos, ◌*◌, ◌+◌, ◌-◌, ◌%◌, ◌^◌, ◌&&◌, false, nat_le, int_lt, unsigned_abs, List, [], ◌∷◌, Option, Some, None, codes, if◌then◌else◌}
 use Rattle.std.specs.Ordering.{int_eq}
 use Rattle.lot_types.specs.declared.fault.FaultCode.TheVariants.{Kind, Value, Order, Unsupported}
-use Rattle.lot_types.specs.declared.point.Point.{Point}
+use Rattle.lot_types.specs.declared.doc.Doc.{Doc}
 use Rattle.lot_types.specs.declared.rgb.Rgb.{Rgb}
-use Rattle.lot_types.specs.declared.prop.Prop.TheVariants.{Own, Slot}
-use Rattle.lot_types.specs.declared.prop.Track.{Track}
-use Rattle.lot_types.specs.declared.prop.Track.TheVariants.{Still}
-use Rattle.lot_types.specs.declared.prop.Position.{Position}
-use Rattle.lot_types.specs.declared.prop.Position.TheVariants.{Whole, Split}
+use Rattle.lot_types.specs.declared.transform.Transform.{Transform}
 use Rattle.lot_json.specs.declared.tree.json.Json.{Json, out-Json}
 use Rattle.lot_json.specs.declared.tree.json.Json.TheOpen as tree
 use Rattle.lot_json.specs.declared.tree.pointer.Step.{Step}
@@ -19,9 +15,11 @@ use Rattle.lot_read.specs.Rows.{needed, optional, unbuilt, object}
 use Rattle.lot_read.specs.Lists.{list}
 use Rattle.lot_read.specs.Number.{any, not_below_zero, above_zero, number}
 use Rattle.lot_read.specs.Flag.{flag, unset}
-use Rattle.lot_read.specs.Position.{position_rows}
 use Rattle.lot_read.specs.SlotNames.{Names}
-use Rattle.lot_play.specs.declared.document.canvas.Span.{Span}
+use Rattle.lot_read.specs.Transform.{transform_rows}
+use Rattle.lot_play.specs.OwnTransform.{names_no_slot}
+use Rattle.lot_play.specs.declared.document.span.Span.{Span}
+use Rattle.lot_play.specs.declared.document.solid.Content.{Content}
 use Rattle.lot_play.specs.declared.document.solid.Solid.{Solid}
 use Rattle.lot_play.specs.declared.document.solid.SolidLayer.{SolidLayer}
 use Rattle.lot_play.specs.declared.document.Document.{Document}
@@ -74,30 +72,12 @@ left_out at m =
     also optional (codes "ef") no_items tt at m
     also optional (codes "sy") no_items tt at m
 
-abbrev pub origin : Point
-origin = record { x = pos 0; y = pos 0 }
+-- A transform that names no slot. No slots are read yet, so that every property has a value of its own.
+abbrev pub own_transform : List Step → Transform → Findings Transform
+own_transform at ks = if names_no_slot ks then good ks else bad Unsupported at
 
--- The track of a position that has one of its own for both coordinates. One that comes from a slot or is split into its
--- coordinates is not supported yet.
-abbrev pub own_track : List Step → Position → Findings (Track Point)
-own_track at (Whole (Own track)) = good track
-own_track at (Whole (Slot slot)) = bad Unsupported (under at (codes "sid"))
-own_track at (Split x y) = bad Unsupported (under at (codes "s"))
-
-unfoldable pub own_position_rows : Names → Row (Track Point)
-own_position_rows names at m = position_rows names at m then own_track at
-
--- A transform: the translation of the layer over time.
-unfoldable pub transform_rows : Names → Row (Track Point)
-transform_rows names at m =
-    good (λ p. p)
-    also unbuilt (codes "a") at m
-    ⊛ optional (codes "p") (object (own_position_rows names)) (Still origin) at m
-    also unbuilt (codes "s") at m
-    also unbuilt (codes "r") at m
-    also unbuilt (codes "o") at m
-    also unbuilt (codes "sk") at m
-    also unbuilt (codes "sa") at m
+unfoldable pub own_transform_rows : Names → Row Transform
+own_transform_rows names at m = transform_rows names at m then own_transform at
 
 -- The rectangle of a solid layer.
 unfoldable pub solid_rows : Row Solid
@@ -107,17 +87,20 @@ solid_rows at m =
     ⊛ needed (codes "sh") (number not_below_zero) at m
     ⊛ needed (codes "sc") hex_color at m
 
-unfoldable pub layer_rows : List (List ℕ) → Row SolidLayer
+-- The rows of a layer after its transform.
+unfoldable pub shown_rows : Row Solid
+shown_rows at m = good (λ solid. solid) also unbuilt (codes "masksProperties") at m ⊛ solid_rows at m
+
+-- The transform of a layer, and what it shows.
+unfoldable pub content_rows : Names → Row Content
+content_rows names at m =
+    good (λ ks solid. record { ks = ks; solid = solid })
+    ⊛ needed (codes "ks") (object (own_transform_rows names)) at m
+    ⊛ shown_rows at m
+
+unfoldable pub layer_rows : Names → Row SolidLayer
 layer_rows names at m =
-    good (λ hidden ip op position solid. record {
-      hidden = hidden;
-      ip = ip;
-      op = op;
-      position = position;
-      w = solid.w;
-      h = solid.h;
-      rgb = solid.rgb;
-    })
+    good (λ hidden ip op content. record { hidden = hidden; ip = ip; op = op; content = content })
     also left_out at m
     ⊛ optional (codes "hd") flag false at m
     also unbuilt (codes "ind") at m
@@ -127,9 +110,7 @@ layer_rows names at m =
     also unbuilt (codes "td") at m
     also unbuilt (codes "tt") at m
     also unbuilt (codes "tp") at m
-    ⊛ needed (codes "ks") (object (transform_rows names)) at m
-    also unbuilt (codes "masksProperties") at m
-    ⊛ solid_rows at m
+    ⊛ content_rows names at m
 
 -- The type of a layer: a whole number, of which 1, a solid layer, is built.
 abbrev pub solid_or_fault : List Step → ℤ → Findings (Unit {0})
@@ -142,7 +123,7 @@ unfoldable pub layer_type : Reader (Unit {0})
 layer_type at j = number any at j then solid_or_fault at
 
 -- A layer. After a fault of its type nothing more of it is read.
-unfoldable pub layer : List (List ℕ) → Row SolidLayer
+unfoldable pub layer : Names → Row SolidLayer
 layer names at m = needed (codes "ty") layer_type at m then λ _. layer_rows names at m
 
 -- An animation ends after its start.
@@ -156,13 +137,18 @@ span_rows at m =
     ⊛ needed (codes "op") (number any) at m)
     then in_order at
 
+-- The document of this size, frame rate and time, without slots and compositions.
+abbrev pub without_slots : ℤ → ℤ → ℤ → Span → Doc
+without_slots w h fr span =
+    record { w = w; h = h; fr = fr; ip = span.ip; op = span.op; slots = []; comps = [] }
+
 -- The whole animation.
-unfoldable pub root : List (List ℕ) → Row Document
-root names at m =
-    good (λ w h span layers. record { canvas = record { w = w; h = h; ip = span.ip; op = span.op }; layers = layers })
+unfoldable pub root_rows : Names → Row Document
+root_rows names at m =
+    good (λ w h fr span layers. record { doc = without_slots w h fr span; layers = layers })
     ⊛ needed (codes "w") (number not_below_zero) at m
     ⊛ needed (codes "h") (number not_below_zero) at m
-    also needed (codes "fr") (number above_zero) at m
+    ⊛ needed (codes "fr") (number above_zero) at m
     ⊛ span_rows at m
     also unbuilt (codes "slots") at m
     also unbuilt (codes "assets") at m
@@ -170,4 +156,4 @@ root names at m =
 
 -- A document. It has no slots yet.
 abbrev pub document : Json → Findings Document
-document j = object (root []) [] j
+document j = object (root_rows []) [] j

@@ -7,13 +7,12 @@ ghost use Rattle.lot_play.specs.Judge.{IsTreeAnswer, IsOnlyAnswer};
 ghost use Rattle.lot_play.specs.Status.{IsJudged};
 
 use crate::answer::Answer;
-use crate::document::canvas::Canvas;
 use crate::document::{Document, read_document};
 use crate::status::Status;
 use crate::svg::draw_frame;
 use crate::task::Task;
 use lot_json::{Json, JsonRefusal, Number, parse};
-use lot_types::{Memory, Refusal, Time};
+use lot_types::{Doc, Memory, Refusal, Time};
 use std::alloc::Global;
 
 /// Answers a task on the content of a document: the place where it stops being JSON, or its first fault, or what the task
@@ -54,9 +53,9 @@ fn perform(alloc: Global, d: &Document, task: Task) -> Result<Answer, Memory>
 
 /// Answers with the SVG of a document at a time, or with [`Status::Usage`] where the animation does not run.
 fn draw_at(alloc: Global, d: &Document, time: Number) -> Result<Answer, Memory>
-    ensures { IfOk result (λ a. moment_answer d.now (moment_in d.now.canvas time) ≡ Some a) }
+    ensures { IfOk result (λ a. moment_answer d.now (moment_in d.now.doc time) ≡ Some a) }
 {
-    match moment(&d.canvas, time) {
+    match moment(&d.doc, time) {
         Some(t) => Ok(Answer {
             bytes: draw_frame(alloc, d, t)?,
             status: Status::Done,
@@ -66,11 +65,11 @@ fn draw_at(alloc: Global, d: &Document, time: Number) -> Result<Answer, Memory>
 }
 
 /// The time, in millionths of a frame, where the animation runs at it.
-fn moment(c: &Canvas, time: Number) -> Option<Time>
-    ensures { result ≡ moment_in c.now time }
+fn moment(doc: &Doc, time: Number) -> Option<Time>
+    ensures { result ≡ moment_in doc.now time }
 {
     match time {
-        Number::Micro(t) if c.ip.get() <= t.get() && t.get() < c.op.get() => Time::new(t.get()),
+        Number::Micro(t) if doc.ip.get() <= t.get() && t.get() < doc.op.get() => Time::new(t.get()),
         _ => None,
     }
 }

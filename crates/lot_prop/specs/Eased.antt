@@ -5,18 +5,27 @@ use Rattle.lot_num.specs.Round.{rnd, limit}
 use Rattle.lot_num.specs.Easing.{between, height}
 use Rattle.lot_types.specs.Handles.{Handles}
 use Rattle.lot_types.specs.declared.key.Key.{Key}
+use Rattle.lot_types.specs.declared.point.Point.{Point}
 use Rattle.lot_prop.specs.LeastStep.{least_step}
 
 -- A part of the time between two keyframes: num of den millionths of a frame, and the handles of the easing, if there
--- are any: that out of the keyframe, and that into the next.
+-- are any: that out of the keyframe, and that into the next. `to` and `ti` are the tangents of the keyframe.
 pub record Part : Type 0 where
   pub num : ℤ
   pub den : ℤ
   pub ease : Option (Handles × Handles)
+  pub to : Point
+  pub ti : Point
 
 -- The part from a keyframe to the next at the time t.
 abbrev pub part_at : {A : Type 0} → Key A → Key A → ℤ → Part
-part_at key next t = record { num = t -ℤ key.t; den = next.t -ℤ key.t; ease = key.ease }
+part_at key next t = record {
+  num = t -ℤ key.t;
+  den = next.t -ℤ key.t;
+  ease = key.ease;
+  to = key.to;
+  ti = key.ti;
+}
 
 abbrev pub component : ℕ → List ℤ → ℤ
 component c coordinates = slice_index_or coordinates c (pos 0)

@@ -1,11 +1,7 @@
 -- The step of the easing grid at a part of the time, as a function.
-use Rattle.std.specs.Prelude.{ℕ, ℤ, zero, suc, pos, ◌*◌, ◌^◌, ◌*ℤ◌, Bool, int_le, if◌then◌else◌}
+use Rattle.std.specs.Prelude.{ℕ, ℤ, pos, ◌*◌, ◌^◌, ◌*ℤ◌, Bool, int_le}
 use Rattle.lot_num.specs.Easing.{curve, cube, grid_steps}
-
--- The least number that passes the test, or n where no number below n passes it.
-unfoldable pub least : (ℕ → Bool) → ℕ → ℕ
-least test zero = 0
-least test (suc n) = if test 0 then 0 else suc (least (λ k. test (suc k)) n)
+use Rattle.lot_num.specs.Least.{least}
 
 -- At the g-th step the curve, whose control points have the x coordinates a and b, is at num / den or after it.
 abbrev pub reaches : ℤ → ℤ → ℤ → ℤ → ℕ → Bool

@@ -1,6 +1,8 @@
-pub mod LeastStep
-pub mod InForce
 pub mod Eased
-pub mod Value
-pub mod Slots
 pub mod Found
+pub mod InForce
+pub mod LeastStep
+pub mod Slots
+pub mod Spatial
+pub mod Transform
+pub mod Value

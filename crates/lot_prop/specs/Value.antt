@@ -1,5 +1,5 @@
--- The value of a property at a time, after the Lottie Specification 1.0, "Animated Property". Where the list of keyframes
--- is empty there is none.
+-- The value of a property at a time, after the Lottie Specification 1.0, "Animated Property". Where the list of
+-- keyframes is empty there is none.
 use Rattle.std.specs.Prelude.{ℤ, ◌==◌, List, [], ◌∷◌, Option, Some, None, length, if◌then◌else◌}
 use Rattle.lot_types.specs.declared.key.Key.{Key}
 use Rattle.lot_types.specs.declared.point.Point.{Point}
@@ -10,6 +10,7 @@ use Rattle.lot_types.specs.Curve.{Curve}
 use Rattle.lot_types.specs.Ramp.{Ramp}
 use Rattle.lot_prop.specs.InForce.{in_force, first_of}
 use Rattle.lot_prop.specs.Eased.{Part, part_at, eased}
+use Rattle.lot_prop.specs.Spatial.{is_spatial, on_curve}
 
 -- What lies between the values of a keyframe and of the next.
 abbrev pub Between : Type 0 → Type 0
@@ -18,8 +19,13 @@ Between A = Part → A → A → A
 abbrev pub scalar_between : Between ℤ
 scalar_between part x y = eased 0 part x y
 
+-- Each coordinate by itself.
+abbrev pub straight_between : Between Point
+straight_between part p q = record { x = eased 0 part p.x q.x; y = eased 1 part p.y q.y }
+
+-- A vector moves along a curve where its keyframe has tangents.
 abbrev pub vector_between : Between Point
-vector_between part p q = record { x = eased 0 part p.x q.x; y = eased 1 part p.y q.y }
+vector_between part p q = if is_spatial part then on_curve part p q else straight_between part p q
 
 abbrev pub color_between : Between Color
 color_between part c d = record { r = eased 0 part c.r d.r; g = eased 1 part c.g d.g; b = eased 2 part c.b d.b }

@@ -1,7 +1,7 @@
-//! The value of a property of a document at a time.
+//! The value of a property of a document at a time, and the map and the opacity of a transform.
 //!
-//! Numbers are millionths: of a pixel, a degree, a per cent, or of one; times are millionths of a frame. Scalars, vectors
-//! and colors take no memory.
+//! Numbers are millionths: of a pixel, a degree, a per cent, or of one; times are millionths of a frame. Only
+//! paths and gradients take memory.
 #![tactic(auto)]
 
 mod bezier;
@@ -9,11 +9,15 @@ mod color;
 mod found;
 mod gradient;
 mod part;
+mod position;
 mod scalar;
+mod transform;
 mod vector;
 
 pub use bezier::value_bezier;
 pub use color::value_color;
 pub use gradient::value_gradient;
+pub use position::value_position;
 pub use scalar::value_scalar;
+pub use transform::{matrix_at, opacity_at};
 pub use vector::{value_vector, vector_at};

@@ -4,19 +4,23 @@ ghost use Rattle.lot_num.specs.Easing.{IsPart, between, height};
 ghost use Rattle.lot_num.specs.Round.{rnd};
 ghost use Rattle.lot_prop.specs.LeastStep.{least_step};
 ghost use Rattle.lot_types.specs.Range.{InRange};
-ghost use Rattle.lot_prop.specs.Eased.{part_at, eased as eased_in, at_fraction, component};
+ghost use Rattle.lot_prop.specs.Eased.{part_at, eased as eased_in, at_fraction as at_fraction_in, component};
+ghost use Rattle.lot_prop.specs.Spatial.{is_spatial as is_spatial_in, is_zero as is_zero_in, on_curve as on_curve_in};
 
+use lot_geom::{Cubic, along, moved};
 use lot_num::{Handle, clamp_fx, ease, ease_linear, rnd_div};
-use lot_types::{Ease3, Fx, Key, Time};
+use lot_types::{Ease3, Fx, Key, Point, Time};
 use std::marker::Model;
 
 /// The part of the time from a keyframe to the next that has passed, `num` of `den`, in millionths of a frame, with the
-/// handles of the easing.
+/// handles of the easing, and with the tangents of the keyframe in millionths of a pixel.
 #[derive(Clone, Copy)]
 pub struct Part {
     num: i64,
     den: i64,
     ease: Option<(Ease3, Ease3)>,
+    to: Point,
+    ti: Point,
 }
 
 impl Model for Part {
@@ -25,11 +29,11 @@ impl Model for Part {
 
     ghost Value = { specs.Part };
 
-    ghost view = { λ p. record { num = p.num; den = p.den; ease = p.ease } };
+    ghost view = { λ p. record { num = p.num; den = p.den; ease = p.ease; to = p.to; ti = p.ti } };
 
     ghost invariant = { λ p. IsPart p.num p.den };
 
-    ghost inverse = { λ p. record { num = p.num; den = p.den; ease = p.ease } };
+    ghost inverse = { λ p. record { num = p.num; den = p.den; ease = p.ease; to = p.to; ti = p.ti } };
 }
 
 impl Part {
@@ -44,6 +48,8 @@ impl Part {
             num: t.get() - start,
             den: next.t.get() - start,
             ease: key.ease,
+            to: key.to,
+            ti: key.ti,
         }
     }
 
@@ -60,6 +66,32 @@ impl Part {
             }
         }
     }
+
+    /// Whether the keyframe has a tangent that is not 0.
+    pub fn is_spatial(&self) -> bool
+        ensures { result ≡ is_spatial_in self.now }
+    {
+        !(is_zero(self.to) && is_zero(self.ti))
+    }
+
+    /// The point between the positions of the keyframe, `p`, and of the next, `q`, on the curve with its tangents.
+    pub fn on_curve(&self, p: &Point, q: &Point) -> Point
+        ensures { result ≡ on_curve_in self.now p.now q.now }
+    {
+        let curve = Cubic {
+            p0: *p,
+            p1: moved(*p, self.to),
+            p2: moved(*q, self.ti),
+            p3: *q,
+        };
+        along(&curve, self.eased(0, Fx::ZERO, Fx::ONE).get())
+    }
+}
+
+fn is_zero(p: Point) -> bool
+    ensures { result ≡ is_zero_in p }
+{
+    p.x.get() == 0 && p.y.get() == 0
 }
 
 /// The number at the part `num / den` of the line from `s0` to `s1`, limited to the range.
@@ -78,11 +110,11 @@ fn curved(o: Handle, i: Handle, s0: i64, s1: i64, num: i64, den: i64) -> i64
     requires from { InRange s0 }
     requires to { InRange s1 }
     requires part { IsPart num den }
-    ensures value { result ≡ at_fraction s0 s1 (height o.y i.y (least_step o.x i.x num den)) }
+    ensures value { result ≡ at_fraction_in s0 s1 (height o.y i.y (least_step o.x i.x num den)) }
     ensures range { InRange result }
 {
     let place = ease(o, i, num, den);
-    moved(s0, s1, place.fraction)
+    at_fraction(s0, s1, place.fraction)
 }
 
 /// The handle of a component.
@@ -98,11 +130,11 @@ fn handle(handles: &Ease3, c: usize) -> Handle
 }
 
 /// The number at a fraction of the change from `s0` to `s1`, limited to the range. The fraction may be below 0 or above 1.
-fn moved(s0: i64, s1: i64, fraction: i64) -> i64
+fn at_fraction(s0: i64, s1: i64, fraction: i64) -> i64
     requires from { InRange s0 }
     requires to { InRange s1 }
     requires fraction { unsigned_abs fraction ≤ 10 ^ 8 }
-    ensures { result ≡ at_fraction s0 s1 fraction }
+    ensures { result ≡ at_fraction_in s0 s1 fraction }
 {
     clamp_fx(s0 as i128 + fraction_of(s1 - s0, fraction))
 }

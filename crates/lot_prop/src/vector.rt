@@ -7,8 +7,9 @@ use crate::found::Found;
 use crate::part::Part;
 use lot_types::{Doc, Point, Prop, SlotValue, Time, Track};
 
-/// The value of a vector property of a document at a time, in millionths, limited to the range. Tangents in space are not
-/// followed.
+/// The value of a vector property of a document at a time, in millionths, limited to the range. Where
+/// the keyframe has tangents it moves along the curve that they give, by the fraction of its length that the first
+/// component of the easing says.
 ///
 /// A slot that the property names has to be there and to be a vector. It takes no memory.
 #[tactic(auto, unfolding(crate::specs::Slots::vector_value))]
@@ -37,13 +38,22 @@ pub fn vector_at(track: &Track<Point>, t: Time) -> Point
                 Found::Held(k) => items[k].value,
                 Found::Between(k) => {
                     let (key, next) = (&items[k], &items[k + 1]);
-                    let part = Part::at(key, next, t);
-                    Point {
-                        x: part.eased(0, key.value.x, next.value.x),
-                        y: part.eased(1, key.value.y, next.value.y),
-                    }
+                    between(&Part::at(key, next, t), &key.value, &next.value)
                 }
             }
         }
+    }
+}
+
+/// The vector between two: on the curve of the keyframe, or each coordinate by itself.
+fn between(part: &Part, p: &Point, q: &Point) -> Point
+    ensures { result ≡ vector_between part.now p.now q.now }
+{
+    if part.is_spatial() {
+        return part.on_curve(p, q);
+    }
+    Point {
+        x: part.eased(0, p.x, q.x),
+        y: part.eased(1, p.y, q.y),
     }
 }

@@ -7,4 +7,5 @@ mod Lengths
 mod MarkedNames
 mod SeenNames
 pub mod Sound
+pub mod SoundTransform
 pub mod SoundValues

@@ -8,7 +8,6 @@ use Rattle.lot_types.specs.declared.prop.Prop.{Prop}
 use Rattle.lot_types.specs.declared.prop.Prop.TheVariants.{Own}
 use Rattle.lot_types.specs.declared.prop.Track.{Track}
 use Rattle.lot_types.specs.declared.prop.Track.TheVariants.{Still, Moving}
-use Rattle.lot_types.specs.declared.prop.Position.TheVariants.{Whole}
 use Rattle.lot_types.specs.declared.point.Point.{Point}
 use Rattle.lot_types.specs.declared.color.Color.{Color}
 use Rattle.lot_types.specs.Curve.{Curve}
@@ -30,10 +29,9 @@ use Rattle.lot_read.specs.Gradient.{gradient, counted, miscounted}
 use Rattle.lot_types.specs.declared.key.Key.{Key}
 use Rattle.lot_types.specs.Handles.{Handles, nearest_handles}
 use Rattle.lot_read.specs.Handle.{coordinates, three_of, three_or_refused, for_each_component, handle_rows}
-use Rattle.lot_read.specs.Keyframe.{not_before, time_rows, time_of, start_value, unbuilt_tangents, key_of, key_rows, each_key, some_items, keys}
+use Rattle.lot_read.specs.Keyframe.{not_before, time_rows, time_of, start_value, no_tangent, space_tangent, key_of, key_rows, each_key, some_items, keys}
 use Rattle.lot_read.specs.Lists.{at_most, list, max_list_items, length_of}
 use Rattle.lot_read.specs.Number.{any, in_range, number, scalar}
-use Rattle.lot_read.specs.Position.{position, position_rows, by_split, splits}
 use Rattle.lot_read.specs.Property.{no_expression, slot_found, slot_name, own, by_name, property_rows, property, track_rows}
 use Rattle.lot_read.specs.Rows.{maybe}
 use Rattle.lot_read.specs.SlotNames.{Names, place_of}
@@ -42,7 +40,7 @@ use Rattle.lot_read.specs.Text.{text}
 use Rattle.lot_read.specs.Track.{track, absent, still, moving, by_flag, moves}
 use Rattle.lot_read.specs.Vector.{vector, two_numbers}
 use Rattle.lot_read.specs.Whole.{whole, allowed, allowed_or_refused}
-use Rattle.lot_read.proofs.Sound.{unbuilt_sound, at_most_sound, good_sound, bad_sound, if_sound, row_sound, also_sound, then_sound, on_sound, needed_sound, optional_sound, maybe_sound, object_sound, list_sound, value_or_first_sound}
+use Rattle.lot_read.proofs.Sound.{at_most_sound, good_sound, bad_sound, if_sound, row_sound, also_sound, then_sound, on_sound, needed_sound, optional_sound, maybe_sound, object_sound, list_sound, value_or_first_sound}
 
 in_range_sound : (fits : ℤ → Bool) (at : List Step) (n : Number) → IsSound (in_range fits at n)
 in_range_sound fits at (Micro z) = if_sound (fits z) (good_sound z) (bad_sound code.Range at)
@@ -210,30 +208,33 @@ start_value_sound {T} {value} sound at m =
       | Some j ↦ sound (under at (codes "s")) j
     ]
 
-unbuilt_tangents_sound : (kind : SlotKind) → RowsAreSound (unbuilt_tangents kind)
-unbuilt_tangents_sound slot_kind.Vector at m = also_sound (also_sound (good_sound tt) (unbuilt_sound (codes "to") at m)) (unbuilt_sound (codes "ti") at m)
-unbuilt_tangents_sound slot_kind.Unused at m = good_sound tt
-unbuilt_tangents_sound slot_kind.Scalar at m = good_sound tt
-unbuilt_tangents_sound slot_kind.Color at m = good_sound tt
-unbuilt_tangents_sound slot_kind.Bezier at m = good_sound tt
-unbuilt_tangents_sound (slot_kind.Gradient stops) at m = good_sound tt
+tangent_sound : (kind : SlotKind) (name : List ℕ) → RowsAreSound (space_tangent kind name)
+unfolding space_tangent
+tangent_sound slot_kind.Vector name at m = optional_sound name no_tangent vector_sound at m
+tangent_sound slot_kind.Unused name at m = good_sound no_tangent
+tangent_sound slot_kind.Scalar name at m = good_sound no_tangent
+tangent_sound slot_kind.Color name at m = good_sound no_tangent
+tangent_sound slot_kind.Bezier name at m = good_sound no_tangent
+tangent_sound (slot_kind.Gradient stops) name at m = good_sound no_tangent
 
 key_rows_sound : {T : Type 0} (kind : SlotKind) {value : Reader T} (before : Option ℤ) → ReadsSoundly value → RowsAreSound (key_rows kind value before)
 unfolding key_rows
 key_rows_sound {T} kind before sound at m =
-    also_sound
+    row_sound
     (row_sound
     (row_sound
     (row_sound
     (row_sound
     (row_sound
-    (good_sound (λ (t : ℤ) (s : T) (h : Bool) (o i : Option Handles). key_of t s h o i))
+    (row_sound
+    (good_sound (λ (t : ℤ) (s : T) (h : Bool) (o i : Option Handles) (to ti : Point). key_of t s h o i to ti))
     (time_rows_sound before at m))
     (start_value_sound sound at m))
     (optional_sound (codes "h") false flag_sound at m))
     (maybe_sound (codes "o") (object_sound handle_rows_sound) at m))
     (maybe_sound (codes "i") (object_sound handle_rows_sound) at m))
-    (unbuilt_tangents_sound kind at m)
+    (tangent_sound kind (codes "to") at m))
+    (tangent_sound kind (codes "ti") at m)
 
 each_key_sound : {T : Type 0} (kind : SlotKind) {value : Reader T} → ReadsSoundly value → (before : Option ℤ) (at : List Step) (i : ℕ) (js : List Json)
     → IsSound (each_key kind value before at i js)
@@ -307,7 +308,7 @@ slot_name_sound names at j =
       | _ ↦ bad_sound code.Kind at
     ]
 
-property_rows_sound : {T : Type 0} (kind : SlotKind) (names : Names) {value : Reader T} → ReadsSoundly value → RowsAreSound (property_rows kind names value)
+pub property_rows_sound : {T : Type 0} (kind : SlotKind) (names : Names) {value : Reader T} → ReadsSoundly value → RowsAreSound (property_rows kind names value)
 unfolding property_rows
 property_rows_sound {T} kind names {value} sound at m =
     row_sound
@@ -323,17 +324,3 @@ track_rows_sound {T} kind sound at m =
     row_sound
     (row_sound (good_sound (λ (_ : Unit {0}) (t : Track T). t)) (optional_sound (codes "x") tt no_expression_sound at m))
     (track_sound kind Missing sound at m)
-
-by_split_sound : (names : Names) (at : List Step) (m : Pairs) (s : Option Bool) → IsSound (by_split names at m s)
-by_split_sound names at m s =
-    if_sound (splits s)
-    (bad_sound code.Unsupported (under at (codes "s")))
-    (row_sound (good_sound (λ (p : Prop Point). Whole p)) (property_rows_sound slot_kind.Vector names vector_sound at m))
-
-pub position_rows_sound : (names : Names) → RowsAreSound (position_rows names)
-unfolding position_rows
-position_rows_sound names at m =
-    on_sound (by_split names at m) (optional_sound (codes "s") false flag_sound at m) (by_split_sound names at m)
-
-pub position_sound : (names : Names) → ReadsSoundly (position names)
-position_sound names = object_sound (position_rows_sound names)

@@ -1,4 +1,4 @@
--- Keyframes, after the Lottie Specification 1.0, "Keyframes". Tangents in space are not built yet.
+-- Keyframes, after the Lottie Specification 1.0, "Keyframes".
 use Rattle.std.specs.Prelude.{ℤ, pos, int_lt, ◌≤ℤ◌, ℕ, ◌+◌, Bool, false, List, [], ◌∷◌, Option, Some, None, codes, if◌then◌else◌}
 use Rattle.lot_types.specs.declared.fault.FaultCode.TheVariants.{Kind, Count, Order, Unsupported}
 use Rattle.lot_types.specs.declared.key.Key.{Key}
@@ -10,12 +10,13 @@ use Rattle.lot_json.specs.declared.tree.json.Json.{Json, out-Json}
 use Rattle.lot_json.specs.declared.tree.json.Json.TheOpen as tree
 use Rattle.lot_json.specs.declared.tree.pointer.Step.{Step}
 use Rattle.lot_json.specs.Lookup.{member}
-use Rattle.lot_read.specs.Findings.{Findings, Reader, Row, under, item, good, bad, ◌⊛◌, ◌also◌, ◌then◌}
+use Rattle.lot_read.specs.Findings.{Findings, Reader, Row, under, item, good, bad, ◌⊛◌, ◌then◌}
 use Rattle.lot_read.specs.Flag.{flag}
 use Rattle.lot_read.specs.Handle.{handle_rows}
 use Rattle.lot_read.specs.Lists.{max_list_items, at_most}
 use Rattle.lot_read.specs.Number.{any, number}
-use Rattle.lot_read.specs.Rows.{needed, optional, maybe, unbuilt, object}
+use Rattle.lot_read.specs.Rows.{needed, optional, maybe, object}
+use Rattle.lot_read.specs.Vector.{vector}
 
 -- A time is not below that of the keyframe before, where that has no fault.
 abbrev pub not_before : Option ℤ → List Step → ℤ → Findings ℤ
@@ -48,30 +49,31 @@ both_handles (Some o) (Some i) = Some (o, i)
 both_handles (Some o) None = None
 both_handles None i = None
 
--- Vectors alone have tangents in space.
-abbrev pub unbuilt_tangents : SlotKind → Row (Unit {0})
-unbuilt_tangents slot_kind.Vector at m = good tt also unbuilt (codes "to") at m also unbuilt (codes "ti") at m
-unbuilt_tangents slot_kind.Unused at m = good tt
-unbuilt_tangents slot_kind.Scalar at m = good tt
-unbuilt_tangents slot_kind.Color at m = good tt
-unbuilt_tangents slot_kind.Bezier at m = good tt
-unbuilt_tangents (slot_kind.Gradient stops) at m = good tt
-
 abbrev pub no_tangent : Point
 no_tangent = record { x = pos 0; y = pos 0 }
 
-abbrev pub key_of : {T : Type 0} → ℤ → T → Bool → Option Handles → Option Handles → Key T
-key_of t s h o i = record { t = t; value = s; hold = h; ease = both_handles o i; to = no_tangent; ti = no_tangent }
+-- A tangent of the curve through space: vectors alone have one.
+unfoldable pub space_tangent : SlotKind → List ℕ → Row Point
+space_tangent slot_kind.Vector name at m = optional name vector no_tangent at m
+space_tangent slot_kind.Unused name at m = good no_tangent
+space_tangent slot_kind.Scalar name at m = good no_tangent
+space_tangent slot_kind.Color name at m = good no_tangent
+space_tangent slot_kind.Bezier name at m = good no_tangent
+space_tangent (slot_kind.Gradient stops) name at m = good no_tangent
+
+abbrev pub key_of : {T : Type 0} → ℤ → T → Bool → Option Handles → Option Handles → Point → Point → Key T
+key_of t s h o i to ti = record { t = t; value = s; hold = h; ease = both_handles o i; to = to; ti = ti }
 
 unfoldable pub key_rows : {T : Type 0} → SlotKind → Reader T → Option ℤ → Row (Key T)
 key_rows kind value before at m =
-    good (λ t s h o i. key_of t s h o i)
+    good (λ t s h o i to ti. key_of t s h o i to ti)
     ⊛ time_rows before at m
     ⊛ start_value value at m
     ⊛ optional (codes "h") flag false at m
     ⊛ maybe (codes "o") (object handle_rows) at m
     ⊛ maybe (codes "i") (object handle_rows) at m
-    also unbuilt_tangents kind at m
+    ⊛ space_tangent kind (codes "to") at m
+    ⊛ space_tangent kind (codes "ti") at m
 
 -- Every keyframe in order, the first of which has the index i and comes after one of this time.
 unfoldable pub each_key : {T : Type 0} → SlotKind → Reader T → Option ℤ → List Step → ℕ → List Json

@@ -17,5 +17,6 @@ pub mod SlotNames
 pub mod Sound
 pub mod Text
 pub mod Track
+pub mod Transform
 pub mod Vector
 pub mod Whole

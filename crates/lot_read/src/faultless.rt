@@ -9,10 +9,11 @@ ghost use Rattle.lot_read.specs.Position.{position};
 ghost use Rattle.lot_read.specs.Property.{property};
 ghost use Rattle.lot_read.specs.SlotNames.{Names};
 ghost use Rattle.lot_read.specs.Sound.{ReadsSoundly};
+ghost use Rattle.lot_read.specs.Transform.{transform};
 ghost use Rattle.lot_read.specs.Vector.{vector};
 
-/// A property of any kind of values has a value where it has no fault, whatever slots there are. It does nothing: its
-/// clauses are laws of the definitions alone.
+/// A property of any kind of values, and a transform, has a value where it has no fault, whatever slots there are. It
+/// does nothing: its clauses are laws of the definitions alone.
 pub fn faultless_property_has_value()
     ensures scalar { (names : Names) → ReadsSoundly (property slot_kind.Scalar names scalar) }
     ensures vector { (names : Names) → ReadsSoundly (property slot_kind.Vector names vector) }
@@ -21,4 +22,5 @@ pub fn faultless_property_has_value()
     ensures gradient { (names : Names) (stops : ℕ) →
         ReadsSoundly (property (slot_kind.Gradient stops) names (gradient stops)) }
     ensures position { (names : Names) → ReadsSoundly (position names) }
+    ensures transform { (names : Names) → ReadsSoundly (transform names) }
 {}

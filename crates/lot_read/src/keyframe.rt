@@ -1,7 +1,7 @@
 //! The reader of keyframes.
 ghost use Rattle.std.specs.Prelude.{◌≡◌, ◌∷◌, Some, None, IfOk};
 ghost use Rattle.lot_read.specs.Findings.{item};
-ghost use Rattle.lot_read.specs.Keyframe.{time_rows, time_of, start_value, both_handles as both_in, unbuilt_tangents, key_rows, each_key, keys, IsNotBefore};
+ghost use Rattle.lot_read.specs.Keyframe.{time_rows, time_of, start_value, both_handles as both_in, space_tangent, key_rows, each_key, keys, IsNotBefore};
 ghost use Rattle.lot_read.specs.Members.{RowGives, SameMembers, fixed_in};
 ghost use Rattle.lot_read.specs.Outcome.{Gives};
 ghost use Rattle.lot_read.specs.Rows.{object};
@@ -14,6 +14,7 @@ use crate::moment::Moment;
 use crate::object::Object;
 use crate::reader::{Reader, refusal_at};
 use crate::value_kind::ValueKind;
+use crate::vector::VectorValue;
 use lot_json::{Json, Pointer};
 use lot_types::{Ease3, FaultCode, Fx, Key, Keys, Point, Refusal, Seq, SlotKind, Time, Use};
 
@@ -122,13 +123,13 @@ fn read_object_key<V: ValueKind>(
 
 const HANDLE: Object<HandleRows> = Object { rows: HandleRows };
 
-const ORIGIN: Point = Point {
+const NO_TANGENT: Point = Point {
     x: Fx::ZERO,
     y: Fx::ZERO,
 };
 
 /// Reads the members of a keyframe that comes after one of the time `before`. [`FaultCode::Order`] is at `t`, and a
-/// keyframe without a value is [`FaultCode::Unsupported`]. Tangents, which vectors alone have, are too.
+/// keyframe without a value is [`FaultCode::Unsupported`]. The tangents, in pixels, are vectors, and last.
 #[tactic(auto, using(crate::proofs::Faults::first_of_prefix), unfolding(crate::specs::Keyframe::key_rows))]
 fn read_key<V: ValueKind>(
     value: &V,
@@ -147,14 +148,15 @@ fn read_key<V: ValueKind>(
     let hold = members.optional("h", &Flag, false)?;
     let o = members.maybe("o", &HANDLE)?;
     let i = members.maybe("i", &HANDLE)?;
-    refuse_tangents(value.kind(), members)?;
+    let to = read_tangent(value.kind(), "to", members)?;
+    let ti = read_tangent(value.kind(), "ti", members)?;
     Ok(Key {
         t,
         value: start,
         hold,
         ease: both_handles(o, i),
-        to: ORIGIN,
-        ti: ORIGIN,
+        to,
+        ti,
     })
 }
 
@@ -196,14 +198,14 @@ fn both_handles(o: Option<Ease3>, i: Option<Ease3>) -> Option<(Ease3, Ease3)>
     }
 }
 
-/// Refuses tangents of a vector, which are not built yet.
-fn refuse_tangents(kind: SlotKind, members: &mut Members) -> Result<(), Refusal>
-    ensures gives { RowGives result members.old members.new (unbuilt_tangents kind) }
+/// Reads a tangent of the curve through space: a vector, (0, 0) where it is absent. Vectors alone have one.
+#[tactic(auto, unfolding(crate::specs::Keyframe::space_tangent))]
+fn read_tangent(kind: SlotKind, name: &str, members: &mut Members) -> Result<Point, Refusal>
+    ensures gives { RowGives result members.old members.new (space_tangent kind name.now) }
     ensures same { SameMembers members.old members.new }
 {
-    if let SlotKind::Vector = kind {
-        members.unbuilt("to")?;
-        members.unbuilt("ti")?;
+    match kind {
+        SlotKind::Vector => members.optional(name, &VectorValue, NO_TANGENT),
+        _ => Ok(NO_TANGENT),
     }
-    Ok(())
 }

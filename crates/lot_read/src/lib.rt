@@ -1,5 +1,5 @@
-//! Readers of the values and properties of a Lottie document. Each answers the value, or the first fault in the order
-//! of the table of members, which is not the order of the text.
+//! Readers of the values, properties and transforms of a Lottie document. Each answers the value, or the first fault in
+//! the order of the table of members, which is not the order of the text.
 //!
 //! A table of members is read row by row: [`Members::needed`], [`Members::optional`], [`Members::maybe`] and
 //! [`Members::unbuilt`] read one member each, by the [`Reader`] of its kind of value.
@@ -26,6 +26,7 @@ mod slot_name;
 mod slot_names;
 mod text;
 mod track;
+mod transform;
 mod value_kind;
 mod value_or_first;
 mod vector;
@@ -50,6 +51,7 @@ pub use slot_name::SlotName;
 pub use slot_names::SlotNames;
 pub use text::TextValue;
 pub use track::Absence;
+pub use transform::{TransformOf, read_transform};
 pub use value_kind::ValueKind;
 pub use value_or_first::ValueOrFirst;
 pub use vector::VectorValue;

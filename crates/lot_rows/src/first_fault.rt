@@ -11,14 +11,17 @@ use std::test::Fail;
 const HIDDEN: &str =
     r##"{"w":10,"h":10,"fr":30,"ip":0,"op":60,"layers":[{"ty":1,"hd":1,"ip":0,"op":60,"ks":{},"sw":10,"sh":10,"sc":"#ff0000"}]}"##;
 
-const ROTATED: &str =
-    r##"{"w":10,"h":10,"fr":30,"ip":0,"op":60,"layers":[{"ty":1,"ip":0,"op":60,"ks":{"r":{"k":0}},"sw":10,"sh":10,"sc":"#ff0000"}]}"##;
+const WITHOUT_SLOT: &str =
+    r##"{"w":10,"h":10,"fr":30,"ip":0,"op":60,"layers":[{"ty":1,"ip":0,"op":60,"ks":{"r":{"sid":"zz"}},"sw":10,"sh":10,"sc":"#ff0000"}]}"##;
+
+const EXPRESSION: &str =
+    r##"{"w":10,"h":10,"fr":30,"ip":0,"op":60,"layers":[{"ty":1,"ip":0,"op":60,"ks":{"r":{"k":0,"x":"time"}},"sw":10,"sh":10,"sc":"#ff0000"}]}"##;
 
 const HIDDEN_BY_TEXT: &str =
     r##"{"w":10,"h":10,"fr":30,"ip":0,"op":60,"layers":[{"ty":1,"hd":"x","ip":0,"op":60,"ks":{},"sw":10,"sh":10,"sc":"#ff0000"}]}"##;
 
 /// Documents, and the line that `check` writes.
-const ROWS: [(&str, &str); 8] = [
+const ROWS: [(&str, &str); 9] = [
     (SOLID, "ok\n"),
     (
         r#"{"zz":1e400,"w":10,"h":10,"fr":30,"ip":0,"op":60,"layers":[]}"#,
@@ -37,7 +40,8 @@ const ROWS: [(&str, &str); 8] = [
         "fault Order /op\n",
     ),
     (HIDDEN_BY_TEXT, "fault Kind /layers/0/hd\n"),
-    (ROTATED, "fault Unsupported /layers/0/ks/r\n"),
+    (WITHOUT_SLOT, "fault NoValue /layers/0/ks/r\n"),
+    (EXPRESSION, "fault Unsupported /layers/0/ks/r/x\n"),
     ("01", "syntax 1\n"),
 ];
 
@@ -70,9 +74,9 @@ fn frame_judges_as_check_does(rt: HostRuntime) -> Result<(), Fail> {
     let alloc = rt.alloc();
     let hidden = written(&rt, alloc, &["frame", "-", "0"], HIDDEN, EMPTY_SVG)?;
     assert_eq!(rt; hidden, Status::Done);
-    let line = "fault Unsupported /layers/0/ks/r\n";
-    let rotated = written(&rt, alloc, &["frame", "-", "60"], ROTATED, line)?;
-    assert_eq!(rt; rotated, Status::Refused);
+    let line = "fault Unsupported /layers/0/ks/r/x\n";
+    let moved_by_text = written(&rt, alloc, &["frame", "-", "60"], EXPRESSION, line)?;
+    assert_eq!(rt; moved_by_text, Status::Refused);
     let no_command = written(&rt, alloc, &["check", "-", "0"], SOLID, "")?;
     assert_eq!(rt; no_command, Status::Usage);
     Ok(())

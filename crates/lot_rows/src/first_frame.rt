@@ -1,4 +1,4 @@
-//! The first frames: an empty animation, one solid layer, and one with a translation.
+//! The first frames: an empty animation, one solid layer, one with a translation, and one with a transform.
 use crate::documents::{EMPTY, EMPTY_SVG, SOLID, SOLID_SVG};
 use crate::one_file::OneFile;
 use crate::short_sink::{ShortSink, run_on};
@@ -19,14 +19,26 @@ const MOVED_SVG: &str =
 </svg>
 "##;
 
+const TURNED: &str =
+    r##"{"w":10,"h":10,"fr":30,"ip":0,"op":60,"layers":[{"ty":1,"ip":0,"op":60,"ks":{"a":{"k":[5,5]},"p":{"k":[20,30]},"s":{"k":[200,100]},"r":{"k":90},"o":{"k":50}},"sw":10,"sh":10,"sc":"#ff0000"}]}"##;
+
+const TURNED_SVG: &str =
+    r##"<svg xmlns="http://www.w3.org/2000/svg" version="1.1" width="10" height="10" viewBox="0 0 10 10">
+<g transform="matrix(0 2 -1 0 25 20)" opacity="0.5">
+<path fill="#ff0000" d="M0 0L10 0L10 10L0 10Z"/>
+</g>
+</svg>
+"##;
+
 const WITH_ASSETS: &str = r#"{"w":10,"h":10,"fr":30,"ip":0,"op":60,"layers":[],"assets":[]}"#;
 
 /// Documents, times, and what `frame` writes and answers.
-const ROWS: [(&str, &str, &str, Status); 9] = [
+const ROWS: [(&str, &str, &str, Status); 10] = [
     (EMPTY, "0", EMPTY_SVG, Status::Done),
     (SOLID, "0", SOLID_SVG, Status::Done),
     (SOLID, "59.999999", SOLID_SVG, Status::Done),
     (MOVED, "0", MOVED_SVG, Status::Done),
+    (TURNED, "0", TURNED_SVG, Status::Done),
     (
         WITH_ASSETS,
         "0",

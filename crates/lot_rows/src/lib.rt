@@ -2,6 +2,10 @@
 #![tactic(auto)]
 
 #[cfg(test)]
+mod angles;
+#[cfg(test)]
+mod curves;
+#[cfg(test)]
 mod documents;
 #[cfg(test)]
 mod first_fault;

@@ -48,6 +48,14 @@ const OVERSHOT: &str =
 const TWO_HANDLES: &str =
     r#"{"k":[{"t":0,"s":[0,0],"o":{"x":[0,0],"y":[0,3]},"i":{"x":[1,1],"y":[1,3]}},{"t":10,"s":[30,40]}]}"#;
 
+/// A line of 30 pixels along which the position moves by the fraction of its length.
+const ON_A_LINE: &str =
+    r#"{"k":[{"t":0,"s":[0,0],"to":[10,0],"ti":[-10,0],"o":{"x":0,"y":0},"i":{"x":1,"y":1}},{"t":10,"s":[30,0]}]}"#;
+
+/// At half of the time the fraction is 2.375, which is limited to 1.
+const OVERSHOT_ON_A_LINE: &str =
+    r#"{"k":[{"t":0,"s":[0,0],"to":[10,0],"ti":[-10,0],"o":{"x":0,"y":3},"i":{"x":1,"y":3}},{"t":10,"s":[30,0]}]}"#;
+
 const COLORS: &str = r#"{"k":[{"t":0,"s":[0,0.5,1]},{"t":4,"s":[1,0.5,0]}]}"#;
 
 const PATHS: &str =
@@ -236,6 +244,8 @@ fn vectors_and_colors_move_by_their_components(rt: HostRuntime) -> Result<(), Fa
     let alloc = rt.alloc();
     assert!(rt; is_at(alloc, OVERSHOT, frames(5), 71_250_000, 0)?);
     assert!(rt; is_at(alloc, TWO_HANDLES, frames(5), 15_000_000, 95_000_000)?);
+    assert!(rt; is_at(alloc, ON_A_LINE, frames(5), 15_000_000, 0)?);
+    assert!(rt; is_at(alloc, OVERSHOT_ON_A_LINE, frames(5), 30_000_000, 0)?);
     assert!(rt; is_color(alloc, COLORS, frames(1), &[250_000, 500_000, 750_000])?);
     Ok(())
 }

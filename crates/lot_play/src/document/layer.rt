@@ -1,12 +1,13 @@
 //! The reader of layers.
+ghost use Rattle.std.specs.Prelude.{◌≡◌, MatchResult, Ok, Err};
 ghost use Rattle.lot_read.specs.Members.{RowGives, SameMembers};
 ghost use Rattle.lot_read.specs.SlotNames.{names_in};
-ghost use Rattle.lot_play.specs.Table.{layer_type, solid_rows, layer_rows, layer};
+ghost use Rattle.lot_play.specs.Table.{layer_type, solid_rows, shown_rows, content_rows, layer_rows, layer};
 
 use crate::document::color::ColorText;
 use crate::document::feature::left_out;
-use crate::document::solid::{Solid, SolidLayer};
-use crate::document::transform::TransformRows;
+use crate::document::solid::{Content, Solid, SolidLayer};
+use crate::document::transform::OwnTransformRows;
 use lot_json::{Json, Pointer};
 use lot_read::{Flag, Members, Moment, NumberValue, Object, Reader, Rows, SlotNames, refusal_at};
 use lot_types::{FaultCode, Refusal, Seq, Use};
@@ -46,15 +47,47 @@ fn solid(members: &mut Members) -> Result<Solid, Refusal>
     Ok(Solid { w, h, rgb })
 }
 
+/// The transform of a layer, and its rectangle.
+#[tactic(auto, using(lot_read::proofs::Faults::first_of_prefix), unfolding(crate::specs::Table::content_rows))]
+fn content(names: &SlotNames, members: &mut Members) -> Result<Content, Refusal>
+    ensures gives { RowGives result members.old members.new (content_rows (names_in names.now)) }
+    ensures same { SameMembers members.old members.new }
+{
+    let transform = Object {
+        rows: OwnTransformRows { names },
+    };
+    let ks = members.needed("ks", &transform)?;
+    let shown = shown(members);
+    let (ks, solid) = both(ks, shown)?;
+    Ok(Content { ks, solid })
+}
+
+/// The rows of a layer after its transform.
+#[tactic(auto, using(lot_read::proofs::Faults::first_of_prefix), unfolding(crate::specs::Table::shown_rows))]
+fn shown(members: &mut Members) -> Result<Solid, Refusal>
+    ensures gives { RowGives result members.old members.new shown_rows }
+    ensures same { SameMembers members.old members.new }
+{
+    members.unbuilt("masksProperties")?;
+    solid(members)
+}
+
+/// A value and what was read after it, or the refusal of that.
+fn both<A: Drop, B: Drop>(first: A, second: Result<B, Refusal>) -> Result<(A, B), Refusal>
+    ensures { MatchResult second (λ b. result ≡ Ok (first, b)) (λ e. result ≡ Err e) }
+{
+    match second {
+        Ok(b) => Ok((first, b)),
+        Err(e) => Err(e),
+    }
+}
+
 /// The members of a layer after its type.
 #[tactic(auto, using(lot_read::proofs::Faults::first_of_prefix), unfolding(crate::specs::Table::layer_rows))]
 fn solid_layer(names: &SlotNames, members: &mut Members) -> Result<SolidLayer, Refusal>
     ensures gives { RowGives result members.old members.new (layer_rows (names_in names.now)) }
     ensures same { SameMembers members.old members.new }
 {
-    let transform = Object {
-        rows: TransformRows { names },
-    };
     left_out(members)?;
     let hidden = members.optional("hd", &Flag, false)?;
     members.unbuilt("ind")?;
@@ -64,17 +97,12 @@ fn solid_layer(names: &SlotNames, members: &mut Members) -> Result<SolidLayer, R
     members.unbuilt("td")?;
     members.unbuilt("tt")?;
     members.unbuilt("tp")?;
-    let position = members.needed("ks", &transform)?;
-    members.unbuilt("masksProperties")?;
-    let Solid { w, h, rgb } = solid(members)?;
+    let content = content(names, members)?;
     Ok(SolidLayer {
         hidden,
         ip,
         op,
-        position,
-        w,
-        h,
-        rgb,
+        content,
     })
 }
 

@@ -2,14 +2,14 @@
 ghost use Rattle.lot_read.specs.Members.{RowGives, SameMembers};
 ghost use Rattle.lot_read.specs.Outcome.{IsAnswer};
 ghost use Rattle.lot_read.specs.SlotNames.{names_in};
-ghost use Rattle.lot_play.specs.Table.{span_rows, root, document};
+ghost use Rattle.lot_play.specs.Table.{span_rows, root_rows, document};
 
 use crate::document::Document;
-use crate::document::canvas::{Canvas, Span};
 use crate::document::layer::LayerRows;
+use crate::document::span::Span;
 use lot_json::{Json, Pointer};
 use lot_read::{ListOf, Members, Moment, NumberValue, Object, Reader, Rows, SlotNames};
-use lot_types::{FaultCode, Refusal, Seq};
+use lot_types::{Doc, FaultCode, Refusal, Seq};
 use std::alloc::Global;
 
 /// Reads from which frame on and up to which frame an animation runs. Where it does not end after its start the fault is
@@ -36,9 +36,9 @@ struct RootRows<'a> {
 impl<'a> Rows for RootRows<'a> {
     type Value = Document;
 
-    ghost rows = { λ r. root (names_in r.names.now) };
+    ghost rows = { λ r. root_rows (names_in r.names.now) };
 
-    #[tactic(auto, using(lot_read::proofs::Faults::first_of_prefix), unfolding(crate::specs::Table::root))]
+    #[tactic(auto, using(lot_read::proofs::Faults::first_of_prefix), unfolding(crate::specs::Table::root_rows))]
     fn read_rows(&self, members: &mut Members) -> Result<Document, Refusal> {
         let list = ListOf {
             max: 4096,
@@ -48,15 +48,22 @@ impl<'a> Rows for RootRows<'a> {
         };
         let w = members.needed("w", &NumberValue::NotBelowZero)?;
         let h = members.needed("h", &NumberValue::NotBelowZero)?;
-        members.needed("fr", &NumberValue::AboveZero)?;
+        let fr = members.needed("fr", &NumberValue::AboveZero)?;
         let Span { ip, op } = span(members)?;
         members.unbuilt("slots")?;
         members.unbuilt("assets")?;
         let layers = members.needed("layers", &list)?;
-        Ok(Document {
-            canvas: Canvas { w, h, ip, op },
-            layers,
-        })
+        let alloc = members.at.allocator();
+        let doc = Doc {
+            w,
+            h,
+            fr,
+            ip,
+            op,
+            slots: Seq::new(alloc),
+            comps: Seq::new(alloc),
+        };
+        Ok(Document { doc, layers })
     }
 }
 

@@ -1,4 +1,6 @@
-use lot_types::{Fx, Point, Rgb, Time, Track};
+//! Solid layers.
+use crate::document::own_transform::OwnTransform;
+use lot_types::{Fx, Rgb, Time};
 
 /// A rectangle of one colour, of `w` by `h` millionths of a pixel.
 #[derive(Clone, Copy)]
@@ -8,15 +10,18 @@ pub struct Solid {
     pub rgb: Rgb,
 }
 
-/// A layer of one colour: a rectangle of `w` by `h` millionths of a pixel, whose left upper corner is at `position`, which
-/// may change over time. It is visible from `ip`, included, to `op`, excluded, where it is not hidden.
+/// What a layer of one colour shows: a rectangle whose left upper corner is the origin, by the transform `ks`.
+#[derive(Drop)]
+pub struct Content {
+    pub ks: OwnTransform,
+    pub solid: Solid,
+}
+
+/// A layer of one colour. It is visible from `ip`, included, to `op`, excluded, where it is not hidden.
 #[derive(Drop)]
 pub struct SolidLayer {
     pub hidden: bool,
     pub ip: Time,
     pub op: Time,
-    pub position: Track<Point>,
-    pub w: Fx,
-    pub h: Fx,
-    pub rgb: Rgb,
+    pub content: Content,
 }

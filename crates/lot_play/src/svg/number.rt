@@ -1,12 +1,11 @@
 //! Numbers, colours and matrices as values of attributes, written at the end of a text.
 ghost use Rattle.std.specs.Prelude.{◌≡◌, ◌++◌, ◌≤◌, ◌<◌, [], ◌∷◌, OnOk, codes};
 ghost use Rattle.lot_num.specs.Digits.{printed};
-ghost use Rattle.lot_play.specs.Svg.{length_text, entry_text, entry_pair_text, hex_text, byte_text, color_text, matrix_text, point_text, rectangle_text, view_box_text};
+ghost use Rattle.lot_play.specs.Svg.{length_text, entry_text, fraction_text, entry_pair_text, hex_text, byte_text, color_text, matrix_text, point_text, rectangle_text, view_box_text};
 
-use crate::document::canvas::Canvas;
 use crate::svg::element::put;
 use lot_num::print_fx;
-use lot_types::{Bytes, Fx, Matrix, Memory, Rgb};
+use lot_types::{Bytes, Doc, Fx, Matrix, Memory, Rgb};
 
 fn put_number(out: &mut Bytes, v: Fx, digits: u32) -> Result<(), Memory>
     requires { digits ≤ 6 }
@@ -29,6 +28,14 @@ pub fn put_length(out: &mut Bytes, v: Fx) -> Result<(), Memory>
 #[tactic(auto, unfolding(crate::specs::Svg::entry_text))]
 fn put_entry(out: &mut Bytes, v: Fx) -> Result<(), Memory>
     ensures { OnOk result (out.new ≡ out.old ++ entry_text v) }
+{
+    put_number(out, v, 6)
+}
+
+/// Writes a fraction, with at most six decimals.
+#[tactic(auto, unfolding(crate::specs::Svg::fraction_text))]
+pub fn put_fraction(out: &mut Bytes, v: Fx) -> Result<(), Memory>
+    ensures { OnOk result (out.new ≡ out.old ++ fraction_text v) }
 {
     put_number(out, v, 6)
 }
@@ -108,11 +115,11 @@ pub fn put_rectangle(out: &mut Bytes, w: Fx, h: Fx) -> Result<(), Memory>
 
 /// Writes the visible part of the plane.
 #[tactic(auto, unfolding(crate::specs::Svg::view_box_text))]
-pub fn put_view_box(out: &mut Bytes, c: &Canvas) -> Result<(), Memory>
-    ensures { OnOk result (out.new ≡ out.old ++ view_box_text c.now) }
+pub fn put_view_box(out: &mut Bytes, d: &Doc) -> Result<(), Memory>
+    ensures { OnOk result (out.new ≡ out.old ++ view_box_text d.now) }
 {
     put(out, "0 0 ")?;
-    put_length(out, c.w)?;
+    put_length(out, d.w)?;
     put(out, " ")?;
-    put_length(out, c.h)
+    put_length(out, d.h)
 }

@@ -1,0 +1,16 @@
+//! The integer square root.
+
+ghost use Rattle.std.specs.Prelude.{◌≡◌, ◌+◌, ◌*◌, ◌^◌, ◌<◌, ◌≤◌};
+ghost use Rattle.lot_num.specs.Root.{root};
+
+/// The greatest whole number whose square is not above `x`: the root of 8 is 2.
+///
+/// `x` is below 2^127.
+pub fn isqrt(x: u128) -> u64
+    requires small { x < 2 ^ 127 }
+    ensures value { result ≡ root x }
+    ensures square { result * result ≤ x }
+    ensures next_square { x < (result + 1) * (result + 1) }
+{
+    x.isqrt() as u64
+}
