@@ -1,23 +1,22 @@
 -- That there is one answer to a task on a content.
 use Rattle.std.proofs.Common.{◌≡◌, ℕ, ℤ, ◌^◌, ◌-◌, List, [], min, Option, None, Some, option_map, Result, Ok, Err, IfOk, inl, inr, sym, refl, ap, ◌∙◌, subst, arith}
 use Rattle.std.proofs.lemmas.Bool.{cases_lt}
+use Rattle.lot_types.specs.declared.doc.Doc.{Doc}
 use Rattle.lot_types.specs.declared.fault.Fault.{Fault}
 use Rattle.lot_json.specs.declared.tree.json.Json.{Json}
 use Rattle.lot_json.specs.Grammar.{JsonText}
 use Rattle.lot_json.specs.Viable.{IsJsonText, IsSyntaxOffset, IsViableLength}
-use Rattle.lot_read.specs.Outcome.{first}
+use Rattle.lot_types.specs.Refusals.{first}
 use Rattle.lot_play.specs.declared.answer.Answer.{Answer}
 use Rattle.lot_play.specs.declared.task.Task.{Task}
 use Rattle.lot_play.specs.declared.task.Task.TheVariants.{Check, Frame}
-use Rattle.lot_play.specs.declared.document.Document.{Document}
 use Rattle.lot_play.specs.declared.status.Status.TheVariants.{Usage}
-use Rattle.lot_play.specs.Table.{document}
+use Rattle.lot_play.specs.Judged.{judged}
 use Rattle.lot_play.specs.Arguments.{IsFrame}
 use Rattle.lot_play.specs.Status.{IsJudged}
 use Rattle.lot_play.specs.Judge.{IsTreeAnswer, for_fault, for_document, IsOnlyAnswer}
 use Rattle.lot_play.specs.Output.{IsAnswerTo, on_no_text, on_fault, on_document, moment, drawn_answer, moment_answer, document_answer, fault_answer, syntax_answer}
-use Rattle.lot_play.specs.Frame.{frame_of}
-use Rattle.lot_play.specs.Svg.{svg_of}
+use Rattle.lot_play.specs.Picture.{svg_of}
 
 pub if_ok : {A E : Type 0} (r : Result A E) (P Q : A → Type 0) → ((x : A) → P x → Q x) → IfOk r P → IfOk r Q
 if_ok (Ok x) P Q f p = f x p
@@ -37,7 +36,7 @@ offset_once : (b : List ℕ) (j k : ℕ) → IsSyntaxOffset b j → IsSyntaxOffs
 offset_once b j k tj tk = tj.2 ∙ ap (λ (n : ℕ). min n (2 ^ 64 - 1)) (far_once b tj.0 tk.0 tj.1 tk.1) ∙ sym tk.2
 
 -- A tree has one answer.
-no_fault : (j : Json) (f : Fault) → (document j).faults ≡ [] → first (document j).faults ≡ Some f → ⊥
+no_fault : (j : Json) (f : Fault) → (judged j).faults ≡ [] → first (judged j).faults ≡ Some f → ⊥
 no_fault j f none h = let e : None ≡ Some f = sym (ap first none) ∙ h in cc
 
 tree_once : (j : Json) (task : Task) (a b : Answer) → IsTreeAnswer j task a → IsTreeAnswer j task b → b ≡ a
@@ -47,7 +46,7 @@ tree_once j task a b (for_fault f h e) (for_document d none v i) = absurd (no_fa
 tree_once j task a b (for_document d none v e) (for_fault g k i) = absurd (no_fault j g none k)
 tree_once j task a b (for_document d none v e) (for_document c nil w i) =
     let same : c ≡ d = (let m = sym w ∙ v in cc) in
-    let found : Some b ≡ Some a = sym i ∙ ap (λ (z : Document). document_answer z task) same ∙ e in cc
+    let found : Some b ≡ Some a = sym i ∙ ap (λ (z : Doc). document_answer z task) same ∙ e in cc
 
 to_answer : (content : List ℕ) (task : Task) (j : Json) (a : Answer) → JsonText content j → IsTreeAnswer j task a → IsAnswerTo content task a
 to_answer content task j a text (for_fault f h e) = on_fault j f text h e
@@ -100,14 +99,14 @@ drawn_fit : (svg : Option (List ℕ)) (task : Task) → IsFitWhereSome task (opt
 drawn_fit None task = tt
 drawn_fit (Some bytes) task = record { judged = tt; usage = λ e. absurd cc }
 
-moment_fit : (d : Document) (o : Option ℤ) (task : Task) → IsFrame task → IsFitWhereSome task (moment_answer d o)
+moment_fit : (d : Doc) (o : Option ℤ) (task : Task) → IsFrame task → IsFitWhereSome task (moment_answer d o)
 moment_fit d None task frame = record { judged = tt; usage = λ e. (frame, refl) }
-moment_fit d (Some t) task frame = drawn_fit (svg_of d.doc (frame_of d t)) task
+moment_fit d (Some t) task frame = drawn_fit (svg_of d t) task
 
-document_fit : (d : Document) (task : Task) → IsFitWhereSome task (document_answer d task)
+document_fit : (d : Doc) (task : Task) → IsFitWhereSome task (document_answer d task)
 unfolding document_answer
 document_fit d Check = record { judged = tt; usage = λ e. absurd cc }
-document_fit d (Frame time) = moment_fit d (moment d.doc time) (Frame time) tt
+document_fit d (Frame time) = moment_fit d (moment d time) (Frame time) tt
 
 tree_fit : (j : Json) (task : Task) (a : Answer) → IsTreeAnswer j task a → IsFit task a
 tree_fit j task a (for_fault f h e) = subst (λ (z : Answer). IsFit task z) (sym e) (record { judged = tt; usage = λ e. absurd cc })
@@ -120,10 +119,10 @@ pub tree_usage : {E : Type 0} (r : Result Answer E) (j : Json) (task : Task) →
     → IfOk r (λ a. a.status ≡ Usage → IsFrame task × (a.bytes ≡ []))
 tree_usage r j task = if_ok r (IsTreeAnswer j task) (λ a. a.status ≡ Usage → IsFrame task × (a.bytes ≡ [])) (λ a t. (tree_fit j task a t).usage)
 
-pub is_document : {E : Type 0} (r : Result Answer E) (j : Json) (task : Task) (d : Document) → (document j).faults ≡ [] → (document j).value ≡ Some d
+pub is_document : {E : Type 0} (r : Result Answer E) (j : Json) (task : Task) (d : Doc) → (judged j).faults ≡ [] → (judged j).value ≡ Some d
     → IfOk r (λ a. document_answer d task ≡ Some a) → IfOk r (IsTreeAnswer j task)
 is_document r j task d none v = if_ok r (λ a. document_answer d task ≡ Some a) (IsTreeAnswer j task) (λ a e. for_document d none v e)
 
-pub is_fault : {E : Type 0} (r : Result Answer E) (j : Json) (task : Task) (f : Fault) → first (document j).faults ≡ Some f
+pub is_fault : {E : Type 0} (r : Result Answer E) (j : Json) (task : Task) (f : Fault) → first (judged j).faults ≡ Some f
     → IfOk r (λ a. a ≡ fault_answer f) → IfOk r (IsTreeAnswer j task)
 is_fault r j task f h = if_ok r (λ a. a ≡ fault_answer f) (IsTreeAnswer j task) (λ a e. for_fault f h e)

@@ -3,4 +3,4 @@ pub mod WriteLoop
 pub mod Judging
 pub mod Running
 pub mod Requests
-pub mod FaultlessTables
+pub mod Walking

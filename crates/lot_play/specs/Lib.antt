@@ -4,10 +4,9 @@ pub mod Sink
 pub mod RealFolder
 pub mod RealSink
 pub mod Status
-pub mod OwnTransform
-pub mod Table
-pub mod Frame
-pub mod Svg
+pub mod Judged
+pub mod Picture
+pub mod Walk
 pub mod Arguments
 pub mod Output
 pub mod Judge

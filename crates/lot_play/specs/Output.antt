@@ -10,17 +10,15 @@ use Rattle.lot_json.specs.declared.tree.number.Number.TheVariants.{Micro, Beyond
 use Rattle.lot_json.specs.declared.tree.json.Json.{Json}
 use Rattle.lot_json.specs.Grammar.{JsonText}
 use Rattle.lot_json.specs.Viable.{IsJsonText, IsSyntaxOffset}
-use Rattle.lot_read.specs.Outcome.{first}
+use Rattle.lot_types.specs.Refusals.{first}
 use Rattle.lot_types.specs.declared.doc.Doc.{Doc}
-use Rattle.lot_play.specs.declared.document.Document.{Document}
 use Rattle.lot_play.specs.declared.task.Task.{Task}
 use Rattle.lot_play.specs.declared.task.Task.TheVariants.{Check, Frame}
 use Rattle.lot_play.specs.declared.status.Status.TheVariants.{Done, Refused, Usage, TooLong}
 use Rattle.lot_play.specs.declared.answer.Answer.{Answer}
 use Rattle.lot_play.specs.Arguments.{Arguments, AskFor, AskForNothing}
-use Rattle.lot_play.specs.Table.{document}
-use Rattle.lot_play.specs.Frame.{frame_of}
-use Rattle.lot_play.specs.Svg.{svg_of}
+use Rattle.lot_play.specs.Judged.{judged}
+use Rattle.lot_play.specs.Picture.{svg_of}
 
 -- The greatest number of bytes of a document.
 abbrev pub max_document_bytes : ℕ
@@ -38,14 +36,14 @@ abbrev pub drawn_answer : List ℕ → Answer
 drawn_answer svg = record { bytes = svg; status = Done }
 
 -- The SVG of a document at a moment; nothing where the animation does not run.
-abbrev pub moment_answer : Document → Option ℤ → Option Answer
+abbrev pub moment_answer : Doc → Option ℤ → Option Answer
 moment_answer d None = Some silent_answer
-moment_answer d (Some t) = option_map drawn_answer (svg_of d.doc (frame_of d t))
+moment_answer d (Some t) = option_map drawn_answer (svg_of d t)
 
 -- The answer to a task on an accepted document.
-unfoldable pub document_answer : Document → Task → Option Answer
+unfoldable pub document_answer : Doc → Task → Option Answer
 document_answer d Check = Some (record { bytes = codes "ok\n"; status = Done })
-document_answer d (Frame time) = moment_answer d (moment d.doc time)
+document_answer d (Frame time) = moment_answer d (moment d time)
 
 -- The line for the first fault of a document: the fault's name, and its JSON pointer.
 unfoldable pub fault_line : Fault → List ℕ
@@ -71,13 +69,13 @@ pub data IsAnswerTo (content : List ℕ) (task : Task) (answer : Answer) : Type 
       → IsAnswerTo content task answer
   on_fault : (j : Json) (f : Fault)
       → JsonText content j
-      → first (document j).faults ≡ Some f
+      → first (judged j).faults ≡ Some f
       → answer ≡ fault_answer f
       → IsAnswerTo content task answer
-  on_document : (j : Json) (d : Document)
+  on_document : (j : Json) (d : Doc)
       → JsonText content j
-      → (document j).faults ≡ []
-      → (document j).value ≡ Some d
+      → (judged j).faults ≡ []
+      → (judged j).value ≡ Some d
       → document_answer d task ≡ Some answer
       → IsAnswerTo content task answer
 
@@ -89,18 +87,18 @@ pub record Outcome : Type 0 where
 -- The task needs a content more than these.
 abbrev pub NeedsMore : Task → List (List ℕ) → Type 0
 NeedsMore Check [] = Unit {0}
-NeedsMore Check (document ∷ more) = ⊥
+NeedsMore Check (judged ∷ more) = ⊥
 NeedsMore (Frame time) [] = Unit {0}
-NeedsMore (Frame time) (document ∷ more) = ⊥
+NeedsMore (Frame time) (judged ∷ more) = ⊥
 
 -- The task ends when it has read these contents, and no sooner, with this answer.
 abbrev pub EndsWith : Task → List (List ℕ) → Answer → Type 0
 EndsWith Check [] answer = ⊥
 EndsWith Check (document ∷ []) answer = IsAnswerTo document Check answer
-EndsWith Check (document ∷ next ∷ more) answer = ⊥
+EndsWith Check (judged ∷ next ∷ more) answer = ⊥
 EndsWith (Frame time) [] answer = ⊥
 EndsWith (Frame time) (document ∷ []) answer = IsAnswerTo document (Frame time) answer
-EndsWith (Frame time) (document ∷ next ∷ more) answer = ⊥
+EndsWith (Frame time) (judged ∷ next ∷ more) answer = ⊥
 
 -- The outcome of a task that has read some contents and has some names still to read: it ends; or the content of the
 -- next name is too long; or it reads that content and continues.

@@ -1,63 +1,104 @@
 //! The answer to a task on the content of a document.
-ghost use Rattle.std.specs.Prelude.{◌≡◌, [], IfOk, Some};
+ghost use Rattle.std.specs.Prelude.{◌≡◌, ◌+◌, ◌≤◌, [], IfOk, Some};
 ghost use Rattle.lot_play.specs.declared.status.Status.TheVariants.{Usage};
 ghost use Rattle.lot_play.specs.Output.{moment as moment_in, moment_answer, document_answer};
 ghost use Rattle.lot_play.specs.Arguments.{IsFrame};
 ghost use Rattle.lot_play.specs.Judge.{IsTreeAnswer, IsOnlyAnswer};
+ghost use Rattle.lot_play.specs.Judged.{judged};
 ghost use Rattle.lot_play.specs.Status.{IsJudged};
+ghost use Rattle.lot_read.specs.Outcome.{IsAnswer};
+ghost use Rattle.lot_types.specs.WellFormed.{max_layers};
 
 use crate::answer::Answer;
-use crate::document::{Document, read_document};
+use crate::frame::draw_frame;
 use crate::status::Status;
-use crate::svg::draw_frame;
 use crate::task::Task;
+use lot_doc::read_doc;
 use lot_json::{Json, JsonRefusal, Number, parse};
-use lot_types::{Doc, Memory, Refusal, Time};
+use lot_refs::{Linked, check_refs};
+use lot_types::{Doc, Memory, Refusal, Steps, Time};
 use std::alloc::Global;
+use std::sync::ledger::Ledger;
 
 /// Answers a task on the content of a document: the place where it stops being JSON, or its first fault, or what the task
-/// asks for.
-pub fn judge(alloc: Global, content: &[u8], task: Task) -> Result<Answer, Memory>
+/// asks for. Only a frame is evaluated, and each of its layers once.
+pub fn judge<L: Ledger>(
+    alloc: Global,
+    content: &[u8],
+    task: Task,
+    steps: &mut Steps<L>,
+) -> Result<Answer, Memory>
     ensures answer { IfOk result (IsOnlyAnswer content.now task) }
     ensures judged { IfOk result (λ a. IsJudged a.status) }
     ensures usage { IfOk result (λ a. a.status ≡ Usage → IsFrame task × (a.bytes ≡ [])) }
+    ensures uncounted { (IsFrame task → ⊥) → steps.new ≡ steps.old }
+    ensures counted { steps.new ≤ steps.old + max_layers }
 {
     match parse(alloc, content) {
-        Ok(j) => judge_tree(alloc, &j, task),
+        Ok(j) => judge_tree(alloc, &j, task, steps),
         Err(JsonRefusal::Syntax(offset)) => Answer::syntax(alloc, offset),
         Err(JsonRefusal::Memory) => Err(Memory),
     }
 }
 
 /// Answers a task on the tree of a document.
-fn judge_tree(alloc: Global, j: &Json, task: Task) -> Result<Answer, Memory>
-    ensures { IfOk result (IsTreeAnswer j.now task) }
+fn judge_tree<L: Ledger>(
+    alloc: Global,
+    j: &Json,
+    task: Task,
+    steps: &mut Steps<L>,
+) -> Result<Answer, Memory>
+    ensures answer { IfOk result (IsTreeAnswer j.now task) }
+    ensures uncounted { (IsFrame task → ⊥) → steps.new ≡ steps.old }
+    ensures counted { steps.new ≤ steps.old + max_layers }
 {
     match read_document(alloc, j) {
-        Ok(d) => perform(alloc, &d, task),
+        Ok(d) => perform(alloc, &d, task, steps),
         Err(Refusal::Fault(fault)) => Answer::fault(alloc, &fault),
         Err(Refusal::Memory) => Err(Memory),
     }
 }
 
+/// Reads a document, and checks its references.
+fn read_document(alloc: Global, j: &Json) -> Result<Linked, Refusal>
+    ensures { IsAnswer result (judged j.now) }
+{
+    let read = read_doc(alloc, j)?;
+    let linked = check_refs(alloc, read)?;
+    Ok(linked)
+}
+
 /// Answers a task on an accepted document.
 #[tactic(auto, unfolding(crate::specs::Output::document_answer))]
-fn perform(alloc: Global, d: &Document, task: Task) -> Result<Answer, Memory>
-    ensures { IfOk result (λ a. document_answer d.now task ≡ Some a) }
+fn perform<L: Ledger>(
+    alloc: Global,
+    d: &Linked,
+    task: Task,
+    steps: &mut Steps<L>,
+) -> Result<Answer, Memory>
+    ensures answer { IfOk result (λ a. document_answer d.now task ≡ Some a) }
+    ensures uncounted { (IsFrame task → ⊥) → steps.new ≡ steps.old }
+    ensures counted { steps.new ≤ steps.old + max_layers }
 {
     match task {
         Task::Check => Answer::line(alloc, "ok\n", Status::Done),
-        Task::Frame(time) => draw_at(alloc, d, time),
+        Task::Frame(time) => draw_at(alloc, d, time, steps),
     }
 }
 
 /// Answers with the SVG of a document at a time, or with [`Status::Usage`] where the animation does not run.
-fn draw_at(alloc: Global, d: &Document, time: Number) -> Result<Answer, Memory>
-    ensures { IfOk result (λ a. moment_answer d.now (moment_in d.now.doc time) ≡ Some a) }
+fn draw_at<L: Ledger>(
+    alloc: Global,
+    d: &Linked,
+    time: Number,
+    steps: &mut Steps<L>,
+) -> Result<Answer, Memory>
+    ensures answer { IfOk result (λ a. moment_answer d.now (moment_in d.now time) ≡ Some a) }
+    ensures counted { steps.new ≤ steps.old + max_layers }
 {
-    match moment(&d.doc, time) {
+    match moment(d.doc(), time) {
         Some(t) => Ok(Answer {
-            bytes: draw_frame(alloc, d, t)?,
+            bytes: draw_frame(alloc, d, t, steps)?,
             status: Status::Done,
         }),
         None => Ok(Answer::silent(alloc, Status::Usage)),

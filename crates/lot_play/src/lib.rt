@@ -4,15 +4,14 @@
 #![tactic(auto)]
 
 mod answer;
-mod document;
 mod faultless;
+mod frame;
 mod judge;
 mod outside;
 mod player;
 mod reading;
 mod request;
 mod status;
-mod svg;
 mod task;
 mod writing;
 

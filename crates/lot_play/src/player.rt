@@ -1,5 +1,5 @@
 //! The top call.
-ghost use Rattle.std.specs.Prelude.{◌≡◌, ◌≤◌, ◌⊎◌, [], ◌∷◌};
+ghost use Rattle.std.specs.Prelude.{◌≡◌, ◌+◌, ◌≤◌, ◌⊎◌, [], ◌∷◌};
 ghost use Rattle.lot_play.specs.declared.status.Status.TheVariants as status;
 ghost use Rattle.lot_play.specs.Arguments.{AskForNothing, AskForFrame, IsFrame};
 ghost use Rattle.lot_play.specs.Count.{Rose, RoseBy, RoseAbove};
@@ -8,6 +8,7 @@ ghost use Rattle.lot_play.specs.Sink.{Gains, GainsPrefix};
 ghost use Rattle.lot_play.specs.Status.{IsJudged, IsComplete, IsShort, IsSilent};
 ghost use Rattle.lot_play.specs.Output.{Outcome, Output, Performs, IsKnown, AreKnown, AreServed, total_length, max_document_bytes};
 ghost use Rattle.lot_play.specs.Run.{Writes, Ends};
+ghost use Rattle.lot_types.specs.WellFormed.{max_layers};
 
 use crate::answer::Answer;
 use crate::judge::judge;
@@ -25,7 +26,7 @@ use std::sync::ledger::Ledger;
 ///
 /// `check DOC` writes whether the document `DOC` is accepted, and `frame DOC TIME` writes its frame at `TIME`, in frames, as
 /// SVG. Any other arguments are no command: the status is [`Status::Usage`], and neither the folder nor the sink is used.
-/// The folder has to serve the name `DOC`. No evaluation is counted.
+/// The folder has to serve the name `DOC`. `steps` counts the layers that are evaluated.
 pub fn run<F: Folder, K: Sink, L: Ledger>(
     alloc: Global,
     arguments: &Seq<Text>,
@@ -71,21 +72,25 @@ pub fn run<F: Folder, K: Sink, L: Ledger>(
 
     ensures same { SameContents (F.state folder.old) (F.state folder.new) }
     ensures served { SameServed (F.serves folder.old) (F.serves folder.new) }
-    ensures uncounted { steps.new ≡ steps.old }
+
+    // Only a frame is evaluated, and each of its layers at most once.
+    ensures uncounted { (AskForFrame arguments.now → ⊥) → steps.new ≡ steps.old }
+    ensures counted { steps.new ≤ steps.old + max_layers }
 {
     match Request::of(arguments) {
-        Some(request) => run_task(alloc, request.document, request.task, folder, out),
+        Some(request) => run_task(alloc, request.document, request.task, folder, out, steps),
         None => Status::Usage,
     }
 }
 
 /// Runs a task on the document that it reads.
-fn run_task<F: Folder, K: Sink>(
+fn run_task<F: Folder, K: Sink, L: Ledger>(
     alloc: Global,
     document: &str,
     task: Task,
     folder: &mut F,
     out: &mut K,
+    steps: &mut Steps<L>,
 ) -> Status
     requires { F.serves folder.old document.now }
     ensures ends { Ends (Performs (F.state folder.old).content task [] (document.now ∷ []))
@@ -94,6 +99,8 @@ fn run_task<F: Folder, K: Sink>(
     ensures usage { result ≡ status.Usage → IsFrame task }
     ensures same { SameContents (F.state folder.old) (F.state folder.new) }
     ensures served { SameServed (F.serves folder.old) (F.serves folder.new) }
+    ensures uncounted { (IsFrame task → ⊥) → steps.new ≡ steps.old }
+    ensures counted { steps.new ≤ steps.old + max_layers }
 {
     let content = match read_all(alloc, folder, document) {
         Ok(content) => content,
@@ -101,7 +108,7 @@ fn run_task<F: Folder, K: Sink>(
         Err(ReadRefusal::TooLong) => return Status::TooLong,
         Err(ReadRefusal::Memory) => return Status::Memory,
     };
-    match judge(alloc, content.as_slice(), task) {
+    match judge(alloc, content.as_slice(), task, steps) {
         Ok(answer) => write_answer(out, &answer),
         Err(_) => Status::Memory,
     }

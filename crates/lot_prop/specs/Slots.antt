@@ -1,73 +1,20 @@
--- The track of a property: its own, or that of its slot. A property whose slot is not there or is of another kind has
+-- The values of the five kinds of properties at a time. A property whose slot is not there or is of another kind has
 -- none.
-use Rattle.std.specs.Prelude.{ℤ, Option, Some, None, slice_get}
+use Rattle.std.specs.Prelude.{ℤ, Option, Some, None}
 use Rattle.lot_types.specs.declared.point.Point.{Point}
 use Rattle.lot_types.specs.declared.color.Color.{Color}
 use Rattle.lot_types.specs.declared.prop.Track.{Track}
 use Rattle.lot_types.specs.declared.prop.Prop.{Prop}
-use Rattle.lot_types.specs.declared.prop.Prop.TheVariants.{Own, Slot}
-use Rattle.lot_types.specs.declared.slot.Slot.{Slot as TheSlot}
-use Rattle.lot_types.specs.declared.slot.SlotValue.{SlotValue}
-use Rattle.lot_types.specs.declared.slot.SlotValue.TheVariants as slot
 use Rattle.lot_types.specs.declared.doc.Doc.{Doc}
 use Rattle.lot_types.specs.Curve.{Curve}
 use Rattle.lot_types.specs.Ramp.{Ramp}
+use Rattle.lot_types.specs.Slots.{scalar_in, vector_in, color_in, bezier_in, gradient_in, track_of}
 use Rattle.lot_prop.specs.Value.{Between, scalar_between, vector_between, color_between, bezier_between, gradient_between, track_value}
-
-abbrev pub scalar_in : SlotValue → Option (Track ℤ)
-scalar_in slot.Unused = None
-scalar_in (slot.Scalar track) = Some track
-scalar_in (slot.Vector track) = None
-scalar_in (slot.Color track) = None
-scalar_in (slot.Bezier track) = None
-scalar_in (slot.Gradient track) = None
-
-abbrev pub vector_in : SlotValue → Option (Track Point)
-vector_in slot.Unused = None
-vector_in (slot.Scalar track) = None
-vector_in (slot.Vector track) = Some track
-vector_in (slot.Color track) = None
-vector_in (slot.Bezier track) = None
-vector_in (slot.Gradient track) = None
-
-abbrev pub color_in : SlotValue → Option (Track Color)
-color_in slot.Unused = None
-color_in (slot.Scalar track) = None
-color_in (slot.Vector track) = None
-color_in (slot.Color track) = Some track
-color_in (slot.Bezier track) = None
-color_in (slot.Gradient track) = None
-
-abbrev pub bezier_in : SlotValue → Option (Track Curve)
-bezier_in slot.Unused = None
-bezier_in (slot.Scalar track) = None
-bezier_in (slot.Vector track) = None
-bezier_in (slot.Color track) = None
-bezier_in (slot.Bezier track) = Some track
-bezier_in (slot.Gradient track) = None
-
-abbrev pub gradient_in : SlotValue → Option (Track Ramp)
-gradient_in slot.Unused = None
-gradient_in (slot.Scalar track) = None
-gradient_in (slot.Vector track) = None
-gradient_in (slot.Color track) = None
-gradient_in (slot.Bezier track) = None
-gradient_in (slot.Gradient track) = Some track
-
--- The track that a slot's value has of a kind.
-abbrev pub of_slot : {A : Type 0} → (SlotValue → Option (Track A)) → Option TheSlot → Option (Track A)
-of_slot track_in None = None
-of_slot track_in (Some found) = track_in found.value
-
-abbrev pub track_of : {A : Type 0} → (SlotValue → Option (Track A)) → Doc → Prop A → Option (Track A)
-track_of track_in d (Own track) = Some track
-track_of track_in d (Slot s) = of_slot track_in (slice_get d.slots s)
 
 abbrev pub value_in : {A : Type 0} → Between A → ℤ → Option (Track A) → Option A
 value_in between t None = None
 value_in between t (Some track) = track_value between t track
 
--- The values of the five kinds at a time.
 unfoldable pub scalar_value : Doc → Prop ℤ → ℤ → Option ℤ
 scalar_value d p t = value_in scalar_between t (track_of scalar_in d p)
 

@@ -1,6 +1,6 @@
 -- The values of positions and transforms at a time, after the Lottie Specification 1.0, "Transform". One whose property
 -- has no value has none.
-use Rattle.std.specs.Prelude.{ℤ, pos, ◌*◌, ◌^◌, int_lt, Option, Some, None, IsSome, option_map, option_and_then, if◌then◌else◌}
+use Rattle.std.specs.Prelude.{ℤ, pos, ◌*◌, ◌^◌, int_lt, Option, Some, None, option_map, option_and_then, if◌then◌else◌}
 use Rattle.lot_geom.specs.Matrix.{transform_matrix}
 use Rattle.lot_num.specs.Round.{rnd, limit}
 use Rattle.lot_types.specs.declared.doc.Doc.{Doc}
@@ -10,27 +10,7 @@ use Rattle.lot_types.specs.declared.prop.Position.{Position}
 use Rattle.lot_types.specs.declared.prop.Position.TheVariants.{Whole, Split}
 use Rattle.lot_types.specs.declared.prop.Prop.{Prop}
 use Rattle.lot_types.specs.declared.transform.Transform.{Transform}
-use Rattle.lot_prop.specs.Slots.{scalar_in, vector_in, track_of, scalar_value, vector_value}
-
--- The slot that a property names is there and has its kind, if it names one.
-abbrev pub HasScalar : Doc → Prop ℤ → Type 0
-HasScalar d p = IsSome (track_of scalar_in d p)
-
-abbrev pub HasVector : Doc → Prop Point → Type 0
-HasVector d p = IsSome (track_of vector_in d p)
-
-abbrev pub HasPosition : Doc → Position → Type 0
-HasPosition d (Whole p) = HasVector d p
-HasPosition d (Split x y) = HasScalar d x × HasScalar d y
-
-pub record HasValues (d : Doc) (ks : Transform) : Type 0 where
-  pub anchor : HasVector d ks.a
-  pub position : HasPosition d ks.p
-  pub scale : HasVector d ks.s
-  pub rotation : HasScalar d ks.r
-  pub opacity : HasScalar d ks.o
-  pub skew : HasScalar d ks.sk
-  pub axis : HasScalar d ks.sa
+use Rattle.lot_prop.specs.Slots.{scalar_value, vector_value}
 
 -- The point of two coordinates, where there are both.
 abbrev pub point_of : Option ℤ → Option ℤ → Option Point

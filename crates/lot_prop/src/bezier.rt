@@ -1,6 +1,7 @@
 //! Paths over time.
 ghost use Rattle.std.specs.Prelude.{◌≡◌, Some, IsSome, IfOk, length};
-ghost use Rattle.lot_prop.specs.Slots.{bezier_in, bezier_value, track_of};
+ghost use Rattle.lot_prop.specs.Slots.{bezier_value};
+ghost use Rattle.lot_types.specs.Slots.{bezier_in, track_of};
 ghost use Rattle.lot_prop.specs.Value.{bezier_between, points_between as points_in, track_value};
 
 use crate::found::Found;

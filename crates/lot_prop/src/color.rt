@@ -1,6 +1,7 @@
 //! Colors over time.
 ghost use Rattle.std.specs.Prelude.{◌≡◌, Some, IsSome};
-ghost use Rattle.lot_prop.specs.Slots.{color_in, color_value, track_of};
+ghost use Rattle.lot_prop.specs.Slots.{color_value};
+ghost use Rattle.lot_types.specs.Slots.{color_in, track_of};
 ghost use Rattle.lot_prop.specs.Value.{color_between, track_value};
 
 use crate::found::Found;

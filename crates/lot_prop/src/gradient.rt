@@ -1,6 +1,7 @@
 //! Gradients over time.
 ghost use Rattle.std.specs.Prelude.{◌≡◌, Some, IsSome, IfOk, length};
-ghost use Rattle.lot_prop.specs.Slots.{gradient_in, gradient_value, track_of};
+ghost use Rattle.lot_prop.specs.Slots.{gradient_value};
+ghost use Rattle.lot_types.specs.Slots.{gradient_in, track_of};
 ghost use Rattle.lot_prop.specs.Value.{gradient_between, numbers_between as numbers_in, track_value};
 
 use crate::found::Found;

@@ -1,6 +1,7 @@
 //! Positions over time.
 ghost use Rattle.std.specs.Prelude.{◌≡◌, Some};
-ghost use Rattle.lot_prop.specs.Transform.{HasPosition, position_value};
+ghost use Rattle.lot_prop.specs.Transform.{position_value};
+ghost use Rattle.lot_types.specs.Slots.{HasPosition};
 
 use crate::scalar::value_scalar;
 use crate::vector::value_vector;

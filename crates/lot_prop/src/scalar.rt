@@ -1,6 +1,7 @@
 //! Scalars over time.
 ghost use Rattle.std.specs.Prelude.{◌≡◌, Some, IsSome};
-ghost use Rattle.lot_prop.specs.Slots.{scalar_in, scalar_value, track_of};
+ghost use Rattle.lot_prop.specs.Slots.{scalar_value};
+ghost use Rattle.lot_types.specs.Slots.{scalar_in, track_of};
 ghost use Rattle.lot_prop.specs.Value.{scalar_between, track_value};
 
 use crate::found::Found;

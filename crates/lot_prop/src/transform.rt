@@ -1,6 +1,7 @@
 //! Transforms over time.
 ghost use Rattle.std.specs.Prelude.{◌≡◌, Some};
-ghost use Rattle.lot_prop.specs.Transform.{HasScalar, HasValues, own_matrix, opacity_fraction as opacity_fraction_in, opacity_value};
+ghost use Rattle.lot_prop.specs.Transform.{own_matrix, opacity_fraction as opacity_fraction_in, opacity_value};
+ghost use Rattle.lot_types.specs.Slots.{HasScalar, HasValues};
 
 use crate::position::value_position;
 use crate::scalar::value_scalar;

@@ -1,6 +1,7 @@
 //! Vectors over time.
 ghost use Rattle.std.specs.Prelude.{◌≡◌, Some, IsSome};
-ghost use Rattle.lot_prop.specs.Slots.{vector_in, vector_value, track_of};
+ghost use Rattle.lot_prop.specs.Slots.{vector_value};
+ghost use Rattle.lot_types.specs.Slots.{vector_in, track_of};
 ghost use Rattle.lot_prop.specs.Value.{vector_between, track_value};
 
 use crate::found::Found;

@@ -1,20 +1,10 @@
 -- What a reader answers: the value where there is no fault, else the first fault. Want of memory may come in place of
 -- either.
 use Rattle.std.specs.Prelude.{◌≡◌, List, [], ◌∷◌, ◌++◌, Option, Some, None, Result, Ok, Err}
-use Rattle.lot_types.specs.declared.fault.Fault.{Fault}
 use Rattle.lot_types.specs.declared.refusal.Refusal.{Refusal}
-use Rattle.lot_types.specs.declared.refusal.Refusal.TheVariants as refusal
 use Rattle.lot_types.specs.declared.slot.Use.{Use}
+use Rattle.lot_types.specs.Refusals.{Fails}
 use Rattle.lot_read.specs.Findings.{Findings}
-
-abbrev pub first : List Fault → Option Fault
-first [] = None
-first (f ∷ fs) = Some f
-
--- A refusal reports the first of these faults.
-abbrev pub Fails : Refusal → List Fault → Type 0
-Fails refusal.Memory faults = Unit {0}
-Fails (refusal.Fault f) faults = first faults ≡ Some f
 
 -- The value of a tree without faults, whose uses of slots were put at the end of a list.
 pub record Gave {A : Type 0} (x : A) (old new : List Use) (found : Findings A) : Type 0 where

@@ -3,7 +3,8 @@ ghost use Rattle.std.specs.Prelude.{◌≡◌, [], ◌∷◌};
 ghost use Rattle.lot_json.specs.declared.tree.json.Json.{Json};
 ghost use Rattle.lot_read.specs.Findings.{Row, under, fault};
 ghost use Rattle.lot_read.specs.Members.{RowGives, SameMembers, fixed_in};
-ghost use Rattle.lot_read.specs.Outcome.{Gives, Fails};
+ghost use Rattle.lot_read.specs.Outcome.{Gives};
+ghost use Rattle.lot_types.specs.Refusals.{Fails};
 ghost use Rattle.lot_read.specs.Rows.{needed, optional, maybe, unbuilt};
 
 use crate::reader::{Reader, refusal_at};

@@ -3,7 +3,8 @@ ghost use Rattle.std.specs.Prelude.{◌≡◌, [], ◌∷◌, List};
 ghost use Rattle.lot_json.specs.declared.tree.json.Json.{Json};
 ghost use Rattle.lot_json.specs.declared.tree.pointer.Step.{Step};
 ghost use Rattle.lot_read.specs.Findings.{Findings, fault};
-ghost use Rattle.lot_read.specs.Outcome.{Gives, Fails};
+ghost use Rattle.lot_read.specs.Outcome.{Gives};
+ghost use Rattle.lot_types.specs.Refusals.{Fails};
 
 use lot_json::{Json, Pointer};
 use lot_types::{Fault, FaultCode, Refusal, Seq, Use};

@@ -3,7 +3,7 @@ ghost use Rattle.std.specs.Prelude.{◌≡◌, [], ◌∷◌, Some, codes};
 ghost use Rattle.lot_read.specs.Findings.{◌on◌, under};
 ghost use Rattle.lot_read.specs.Flag.{flag};
 ghost use Rattle.lot_read.specs.Members.{RowGives, SameMembers, fixed_in};
-ghost use Rattle.lot_read.specs.Outcome.{Fails};
+ghost use Rattle.lot_types.specs.Refusals.{Fails};
 ghost use Rattle.lot_read.specs.Rows.{maybe};
 ghost use Rattle.lot_read.specs.Track.{track, absent, by_flag, moves as moves_in, is_list_of_keys as list_of_keys_in, begins_with_key as key_first_in};
 

@@ -30,7 +30,7 @@ const TURNED_SVG: &str =
 </svg>
 "##;
 
-const WITH_ASSETS: &str = r#"{"w":10,"h":10,"fr":30,"ip":0,"op":60,"layers":[],"assets":[]}"#;
+const WITH_ASSETS: &str = r#"{"w":10,"h":10,"fr":30,"ip":0,"op":60,"layers":[],"assets":[{}]}"#;
 
 /// Documents, times, and what `frame` writes and answers.
 const ROWS: [(&str, &str, &str, Status); 10] = [
@@ -42,7 +42,7 @@ const ROWS: [(&str, &str, &str, Status); 10] = [
     (
         WITH_ASSETS,
         "0",
-        "fault Unsupported /assets\n",
+        "fault Unsupported /assets/0\n",
         Status::Refused,
     ),
     ("[1]x", "0", "syntax 3\n", Status::Refused),

@@ -2,10 +2,6 @@
 #![tactic(auto)]
 
 #[cfg(test)]
-mod angles;
-#[cfg(test)]
-mod curves;
-#[cfg(test)]
 mod documents;
 #[cfg(test)]
 mod first_fault;
@@ -18,18 +14,14 @@ mod keyframes;
 #[cfg(test)]
 mod long_numbers;
 #[cfg(test)]
-mod number_tokens;
-#[cfg(test)]
 mod one_file;
 #[cfg(test)]
 mod outside_fails;
 #[cfg(test)]
-mod properties;
+mod parents;
 #[cfg(test)]
 mod real_files;
 #[cfg(test)]
 mod short_sink;
 #[cfg(test)]
 mod syntax_offsets;
-#[cfg(test)]
-mod values;

@@ -1,7 +1,11 @@
 pub mod Curve
 pub mod FaultName
+pub mod Frame
 pub mod Handles
 pub mod Keyframes
 pub mod Ramp
 pub mod Range
+pub mod Refusals
+pub mod Slots
+pub mod WellFormed
 pub mod formers

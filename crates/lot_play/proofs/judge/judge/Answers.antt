@@ -7,16 +7,16 @@ use Rattle.lot_play.proofs.Judging.{judges_tree, judges_no_text, tree_judged, tr
 use Rattle.lot_play.proofs.judge.judge.Goals as goal
 
 pub returns-in-Ok-clause-answer : goal.returns-in-Ok-clause-answer
-returns-in-Ok-clause-answer c = judges_tree c.judge_tree.result _ _ c.in-Ok.j c.in-Ok.ensures.only.text c.in-Ok.ensures.only.only c.judge_tree.ensures
+returns-in-Ok-clause-answer g c = judges_tree c.judge_tree.result _ _ c.in-Ok.j c.in-Ok.ensures.only.text c.in-Ok.ensures.only.only c.judge_tree.ensures.answer
 
 pub returns-in-Ok-clause-judged : goal.returns-in-Ok-clause-judged
-returns-in-Ok-clause-judged c = tree_judged c.judge_tree.result c.in-Ok.j c.args.task c.judge_tree.ensures
+returns-in-Ok-clause-judged g c = tree_judged c.judge_tree.result c.in-Ok.j c.args.task c.judge_tree.ensures.answer
 
 pub returns-in-Ok-clause-usage : goal.returns-in-Ok-clause-usage
-returns-in-Ok-clause-usage c = tree_usage c.judge_tree.result c.in-Ok.j c.args.task c.judge_tree.ensures
+returns-in-Ok-clause-usage g c = tree_usage c.judge_tree.result c.in-Ok.j c.args.task c.judge_tree.ensures.answer
 
 pub returns-in-Err-Syntax-clause-answer : goal.returns-in-Err-Syntax-clause-answer
-returns-in-Err-Syntax-clause-answer c =
+returns-in-Err-Syntax-clause-answer g c =
     let fault = subst (λ (e : JsonRefusal). IsNoText e c.args.content.now) c.in-Err-Syntax.field-0-is c.in-Err-Syntax.ensures.refused in
     let line = subst (λ (k : ℕ). IfOk c.syntax.result (λ (a : Answer). a ≡ syntax_answer k)) c.in-Err-Syntax.offset-is c.syntax.ensures in
     judges_no_text c.syntax.result _ _ c.in-Err-Syntax.offset fault.none fault.far line

@@ -27,6 +27,9 @@ returns-in-Some-clause-misused g c = λ none. absurd (none _ _ c.in-Some.ensures
 pub returns-in-Some-clause-usage : goal.returns-in-Some-clause-usage
 returns-in-Some-clause-usage g c = λ e. inr (_, _, c.in-Some.ensures.is, c.run_task.ensures.usage e)
 
+pub returns-in-Some-clause-uncounted : goal.returns-in-Some-clause-uncounted
+returns-in-Some-clause-uncounted g c = λ none. c.run_task.ensures.uncounted (λ frame. none (_, _, c.in-Some.ensures.is, frame))
+
 pub returns-in-None-clause-defined : goal.returns-in-None-clause-defined
 returns-in-None-clause-defined g c = λ whole o out.
     let e = no_command (g.F.Folder.state c.args.folder.now).content c.args.arguments.now o c.in-None.ensures out in

@@ -1,0 +1,76 @@
+-- The frame of a composition at a time: the layers that it shows, as a tree. After the Lottie Specification 1.0,
+-- "Layers". Mattes and inner compositions come with their layers.
+use Rattle.std.specs.Prelude.{ℕ, ℤ, zero, suc, ◌-◌, Bool, true, false, not, ◌&&◌, int_le, int_lt, length, Option, Some, None, if◌then◌else◌}
+use Rattle.lot_comp.specs.Full.{layer_at}
+use Rattle.lot_comp.specs.Piece.{piece_of}
+use Rattle.lot_refs.specs.Linked.{layers_of}
+use Rattle.lot_types.specs.declared.doc.Doc.{Doc}
+use Rattle.lot_types.specs.declared.layer.Layer.{Layer}
+use Rattle.lot_types.specs.declared.layer.LayerKind.{LayerKind}
+use Rattle.lot_types.specs.declared.layer.LayerKind.TheVariants as kind
+use Rattle.lot_types.specs.declared.matte.Matte.{Matte}
+use Rattle.lot_types.specs.declared.matte.Matte.TheVariants.{No}
+use Rattle.lot_types.specs.declared.piece.Piece.{Piece}
+use Rattle.lot_types.specs.Frame.{Frame, nothing, node, Visit, ClipSize}
+
+-- A layer that is not hidden is visible from its first moment to before its last.
+abbrev pub is_visible : ℤ → Layer → Bool
+is_visible t layer = not layer.hidden && int_le layer.ip t && int_lt t layer.op
+
+-- A null layer draws nothing.
+abbrev pub draws : LayerKind → Bool
+draws (kind.Precomp name w h st sr tm) = true
+draws (kind.Solid w h rgb) = true
+draws kind.Null = false
+draws (kind.Shape items) = true
+
+-- The layer is drawn by itself at a time.
+abbrev pub is_drawn : ℤ → Layer → Bool
+is_drawn t layer = is_visible t layer && draws layer.kind && not layer.td
+
+abbrev pub visit_of : ℕ → ℕ → ℤ → Visit
+visit_of c l t = record { comp = c; layer = l; time = t }
+
+-- Layer l, without a matte and without a composition in it, and the layers after it.
+abbrev pub node_of : ℕ → ℕ → ℤ → Frame Visit → Frame Visit
+node_of c l t rest = node (visit_of c l t) No nothing None nothing rest
+
+abbrev pub with_layer : ℕ → ℕ → ℤ → Option Layer → Frame Visit → Frame Visit
+with_layer c l t None rest = rest
+with_layer c l t (Some layer) rest = if is_drawn t layer then node_of c l t rest else rest
+
+-- The first n layers of composition c, from the last of them to the first, so that the first lies on top.
+abbrev pub nodes : Doc → ℕ → ℤ → ℕ → Frame Visit
+nodes d c t zero = nothing
+nodes d c t (suc l) = with_layer c l t (layer_at d c l) (nodes d c t l)
+
+abbrev pub frame : Doc → ℕ → ℤ → Frame Visit
+frame d c t = nodes d c t (length (layers_of d c))
+
+-- The main composition is the last.
+abbrev pub main_comp : Doc → ℕ
+main_comp d = length d.comps - 1
+
+-- ---- with the layers evaluated
+
+-- The parts of a node, where there are all.
+abbrev pub node_with : {A : Type 0} → Matte → Option ClipSize → Option A → Option (Frame A) → Option (Frame A)
+    → Option (Frame A) → Option (Frame A)
+node_with kind clip (Some x) (Some matte) (Some inner) (Some rest) = Some (node x kind matte clip inner rest)
+node_with kind clip (Some x) (Some matte) (Some inner) None = None
+node_with kind clip (Some x) (Some matte) None rest = None
+node_with kind clip (Some x) None inner rest = None
+node_with kind clip None matte inner rest = None
+
+-- The frame with what each layer is evaluated to, where all can be.
+abbrev pub evaluated : {A B : Type 0} → (A → Option B) → Frame A → Option (Frame B)
+evaluated f nothing = Some nothing
+evaluated f (node at kind matte clip inner rest) =
+    node_with kind clip (f at) (evaluated f matte) (evaluated f inner) (evaluated f rest)
+
+abbrev pub piece_at : Doc → Visit → Option Piece
+piece_at d v = piece_of d v.comp v.layer v.time
+
+-- The finished frame of the main composition.
+abbrev pub finished_frame : Doc → ℤ → Option (Frame Piece)
+finished_frame d t = evaluated (piece_at d) (frame d (main_comp d) t)

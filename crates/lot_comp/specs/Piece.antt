@@ -1,0 +1,97 @@
+-- A layer of a composition at a time, evaluated from scratch. Whether it is visible plays no part.
+use Rattle.std.specs.Prelude.{◌≡◌, ℕ, ℤ, pos, ◌^◌, true, false, List, [], ◌∷◌, Option, Some, None, option_map, option_and_then}
+use Rattle.std.specs.List.{All}
+use Rattle.lot_comp.specs.Full.{layer_at, full_matrix}
+use Rattle.lot_geom.specs.Matrix.{identity}
+use Rattle.lot_prop.specs.Transform.{opacity_value}
+use Rattle.lot_types.specs.declared.brush.Brush.TheVariants.{Fill}
+use Rattle.lot_types.specs.declared.contour.Contour.{Contour}
+use Rattle.lot_types.specs.declared.doc.Doc.{Doc}
+use Rattle.lot_types.specs.declared.ink.Ink.{Ink}
+use Rattle.lot_types.specs.declared.ink.Ink.TheVariants.{Flat, Linear, Radial}
+use Rattle.lot_types.specs.declared.layer.Layer.{Layer}
+use Rattle.lot_types.specs.declared.layer.LayerKind.{LayerKind}
+use Rattle.lot_types.specs.declared.layer.LayerKind.TheVariants as kind
+use Rattle.lot_types.specs.declared.mask.Mask.{Mask}
+use Rattle.lot_types.specs.declared.matrix.Matrix.{Matrix}
+use Rattle.lot_types.specs.declared.paint.Paint.{Paint}
+use Rattle.lot_types.specs.declared.piece.Piece.{Piece}
+use Rattle.lot_types.specs.declared.point.Point.{Point}
+use Rattle.lot_types.specs.declared.rgb.Rgb.{Rgb}
+use Rattle.lot_types.specs.declared.seg.Seg.{Seg}
+
+abbrev pub corner : ℤ → ℤ → Point
+corner x y = record { x = x; y = y }
+
+abbrev pub line : Point → Point → Seg
+line from to = record { c1 = from; c2 = to; end = to }
+
+-- The closed contour (0, 0), (w, 0), (w, h), (0, h).
+abbrev pub rectangle : ℤ → ℤ → Contour
+rectangle w h =
+    let a = corner (pos 0) (pos 0) in let b = corner w (pos 0) in let c = corner w h in let d = corner (pos 0) h in
+    record { closed = true; start = a; segs = line a b ∷ line b c ∷ line c d ∷ line d a ∷ [] }
+
+-- A rectangle that is filled with a color.
+abbrev pub solid_paint : ℤ → ℤ → Rgb → Paint
+solid_paint w h rgb = record {
+  ink = Flat rgb;
+  brush = Fill false;
+  opacity = pos (10 ^ 6);
+  matrix = identity;
+  contours = rectangle w h ∷ [];
+}
+
+-- What a layer shows. Compositions and shapes are not evaluated yet.
+abbrev pub paints_of : LayerKind → Option (List Paint)
+paints_of (kind.Solid w h rgb) = Some (solid_paint w h rgb ∷ [])
+paints_of kind.Null = Some []
+paints_of (kind.Precomp name w h st sr tm) = None
+paints_of (kind.Shape items) = None
+
+-- A layer without masks.
+abbrev pub unmasked : Matrix → ℤ → List Paint → Piece
+unmasked m opacity paints = record {
+  matrix = m;
+  opacity = opacity;
+  paints = paints;
+  masked = false;
+  white = false;
+  masks = [];
+  remap = None;
+}
+
+-- The parts of a piece, where there are all.
+abbrev pub piece_with : Option Matrix → Option ℤ → Option (List Paint) → Option Piece
+piece_with (Some m) (Some opacity) (Some paints) = Some (unmasked m opacity paints)
+piece_with (Some m) (Some opacity) None = None
+piece_with (Some m) None paints = None
+piece_with None opacity paints = None
+
+-- Masks are not evaluated yet.
+abbrev pub without_masks : List Mask → Option Piece → Option Piece
+without_masks [] evaluated = evaluated
+without_masks (mask ∷ masks) evaluated = None
+
+abbrev pub piece_of_layer : Doc → ℕ → ℕ → ℤ → Layer → Option Piece
+piece_of_layer d c l t layer =
+    without_masks layer.masks
+    (piece_with (full_matrix d c l t) (opacity_value d layer.ks.o t) (paints_of layer.kind))
+
+-- Layer l of composition c at a time.
+unfoldable pub piece_of : Doc → ℕ → ℕ → ℤ → Option Piece
+piece_of d c l t = option_and_then (piece_of_layer d c l t) (layer_at d c l)
+
+-- What is drawn so far: a piece without masks, whose paints are fills of one color by the rule `nonzero`.
+abbrev pub IsFlatInk : Ink → Type 0
+IsFlatInk (Flat rgb) = Unit {0}
+IsFlatInk (Linear from to stops) = ⊥
+IsFlatInk (Radial center radius focus stops) = ⊥
+
+pub record IsPlainPaint (p : Paint) : Type 0 where
+  pub ink : IsFlatInk p.ink
+  pub brush : p.brush ≡ Fill false
+
+pub record IsPlain (p : Piece) : Type 0 where
+  pub unmasked : p.masked ≡ false
+  pub paints : All IsPlainPaint p.paints

@@ -1,0 +1,67 @@
+//! Layers at a time.
+ghost use Rattle.std.specs.Prelude.{◌≡◌, ◌<◌, ◌+◌, Some, length, IfOk};
+ghost use Rattle.lot_comp.specs.Piece.{piece_of, paints_of as paints_in, IsPlain, IsPlainPaint};
+ghost use Rattle.std.specs.List.{All};
+ghost use Rattle.lot_refs.specs.Linked.{layers_of};
+ghost use Rattle.lot_types.specs.WellFormed.{IsBuiltKind};
+
+use crate::full_matrix::full_of;
+use crate::solid::solid_paint;
+use lot_prop::opacity_at;
+use lot_refs::Linked;
+use lot_types::{LayerKind, Memory, Paint, Piece, Seq, Steps, Time};
+use std::alloc::Global;
+use std::sync::ledger::Ledger;
+
+/// Layer `l` of composition `c` at a time: its matrix along its parents, its opacity and what it shows, whether it is visible
+/// or not. The counter rises by one, whatever the answer is. Want of memory is the one refusal.
+///
+/// The layer has to be there.
+#[tactic(auto, unfolding(crate::specs::Piece::piece_of))]
+pub fn piece<L: Ledger>(
+    alloc: Global,
+    d: &Linked,
+    c: u32,
+    l: u32,
+    t: Time,
+    steps: &mut Steps<L>,
+) -> Result<Piece, Memory>
+    requires comp { c < length d.now.comps }
+    requires layer { l < length (layers_of d.now c) }
+    ensures value { IfOk result (λ p. piece_of d.now c l t ≡ Some p) }
+    ensures plain { IfOk result (λ p. IsPlain p) }
+    ensures counted { steps.new ≡ steps.old + 1 }
+{
+    steps.tick();
+    let doc = d.doc();
+    let layer = &doc.comps.items()[c as usize].layers.items()[l as usize];
+    let matrix = full_of(alloc, d, c, l, t)?;
+    let paints = paints_of(alloc, &layer.kind)?;
+    Ok(Piece {
+        matrix,
+        opacity: opacity_at(doc, &layer.ks.o, t),
+        paints,
+        masked: false,
+        white: false,
+        masks: Seq::new(alloc),
+        remap: None,
+    })
+}
+
+/// What a layer shows.
+fn paints_of(alloc: Global, kind: &LayerKind) -> Result<Seq<Paint>, Memory>
+    requires { IsBuiltKind kind.now }
+    ensures value { IfOk result (λ paints. paints_in kind.now ≡ Some paints) }
+    ensures plain { IfOk result (λ paints. All IsPlainPaint paints) }
+{
+    match kind {
+        LayerKind::Solid { w, h, rgb } => {
+            let mut paints = Seq::with_capacity(alloc, 1)?;
+            paints.push(solid_paint(alloc, *w, *h, *rgb)?)?;
+            Ok(paints)
+        }
+        LayerKind::Null => Ok(Seq::new(alloc)),
+        LayerKind::Precomp { .. } => unreachable!(),
+        LayerKind::Shape(_) => unreachable!(),
+    }
+}

@@ -1,0 +1,4 @@
+pub mod FaultlessTables
+mod Only
+mod OnlyTransform
+mod WellFormed

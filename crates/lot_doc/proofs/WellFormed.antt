@@ -1,0 +1,115 @@
+-- Each document that the tables give is well-formed.
+use Rattle.std.proofs.Common.{◌≡◌, ℤ, true, List, [], Option, Some, codes, refl, subst, sym, T, arith}
+use Rattle.std.specs.Int.Signed.{lt_z_yes}
+use Rattle.std.specs.Option.{IfSome}
+use Rattle.std.proofs.lemmas.List.Elements.{All-nil, All-cons}
+use Rattle.lot_types.specs.declared.doc.Doc.{Doc}
+use Rattle.lot_types.specs.declared.layer.Layer.{Layer}
+use Rattle.lot_types.specs.declared.layer.LayerKind.{LayerKind}
+use Rattle.lot_types.specs.declared.layer.LayerKind.TheVariants as kind
+use Rattle.lot_types.specs.declared.rgb.Rgb.{Rgb}
+use Rattle.lot_types.specs.declared.read.Read.{Read}
+use Rattle.lot_types.specs.declared.slot.Use.{Use}
+use Rattle.lot_types.specs.declared.transform.Transform.{Transform}
+use Rattle.lot_types.specs.WellFormed.{max_layers, HasFewLayers, LayersHaveValues, IsBuiltKind, IsBuilt, LayersAreBuilt, IsWellFormed}
+use Rattle.lot_json.specs.declared.tree.json.Json.{Json}
+use Rattle.lot_read.specs.Lists.{list}
+use Rattle.lot_read.specs.Number.{not_below_zero, above_zero, number}
+use Rattle.lot_read.specs.Rows.{needed, optional, unbuilt, object}
+use Rattle.lot_doc.specs.declared.layer_type.LayerType.{LayerType}
+use Rattle.lot_doc.specs.declared.layer_type.LayerType.TheVariants.{Solid, Null}
+use Rattle.lot_doc.specs.Color.{hex_color}
+use Rattle.lot_doc.specs.declared.layer.Header.{Header}
+use Rattle.lot_doc.specs.declared.layer.Content.{Content}
+use Rattle.lot_doc.specs.declared.running_time.RunningTime.{RunningTime}
+use Rattle.lot_doc.specs.Feature.{asset_rows}
+use Rattle.lot_doc.specs.Layer.{layer_type, header_rows, solid_rows, type_rows, kind_rows, content_rows, layer_of, layer_rows, typed_layer_rows}
+use Rattle.lot_doc.specs.Root.{max_assets, running_time_rows, main_comp, doc_of, root_rows, document}
+use Rattle.lot_doc.proofs.Only.{GivesOnly, RowsGiveOnly, AreFew, good_only, row_only, any_row_only, also_only, then_only, needed_only, object_only, number_only, list_only}
+use Rattle.lot_doc.proofs.OnlyTransform.{EverValues, transform_only}
+
+-- What a layer shows is a rectangle or nothing.
+solid_rows_only : RowsGiveOnly IsBuiltKind solid_rows
+unfolding solid_rows
+solid_rows_only at m =
+    any_row_only (needed (codes "sc") hex_color at m)
+    (any_row_only (needed (codes "sh") (number not_below_zero) at m)
+    (any_row_only (needed (codes "sw") (number not_below_zero) at m)
+    (good_only (λ (w h : ℤ) (rgb : Rgb). kind.Solid w h rgb) (λ w h rgb. tt))))
+
+type_rows_only : (ty : LayerType) → RowsGiveOnly IsBuiltKind (type_rows ty)
+unfolding type_rows
+type_rows_only Solid at m = solid_rows_only at m
+type_rows_only Null at m = good_only kind.Null tt
+
+kind_rows_only : (ty : LayerType) → RowsGiveOnly IsBuiltKind (kind_rows ty)
+unfolding kind_rows
+kind_rows_only ty at m =
+    row_only (type_rows_only ty at m)
+    (also_only (unbuilt (codes "masksProperties") at m)
+    (good_only (λ (shown : LayerKind). shown) (λ shown built. built)))
+
+-- Layers: the transform of each has values in any document, and each can be evaluated.
+abbrev ContentIsGood : Content → Type 0
+ContentIsGood content = EverValues content.ks × IsBuiltKind content.kind
+
+content_rows_only : (ty : LayerType) → RowsGiveOnly ContentIsGood (content_rows [] ty)
+unfolding content_rows
+content_rows_only ty at m =
+    row_only (kind_rows_only ty at m)
+    (row_only (needed_only (codes "ks") transform_only at m)
+    (good_only (λ (ks : Transform) (shown : LayerKind). record { ks = ks; kind = shown }) (λ ks ever shown built. (ever, built))))
+
+abbrev LayerIsGood : Layer → Type 0
+LayerIsGood layer = EverValues layer.ks × IsBuilt layer
+
+good_layer : (header : Header) (content : Content) → ContentIsGood content → LayerIsGood (layer_of header content)
+good_layer header content good = (good.0, record { kind = good.1; matte = refl; masks = refl })
+
+layer_rows_only : (ty : LayerType) → RowsGiveOnly LayerIsGood (layer_rows [] ty)
+unfolding layer_rows
+layer_rows_only ty at m =
+    row_only (content_rows_only ty at m)
+    (any_row_only (header_rows at m)
+    (good_only (λ (header : Header) (content : Content). layer_of header content) good_layer))
+
+typed_layer_rows_only : RowsGiveOnly LayerIsGood (typed_layer_rows [])
+unfolding typed_layer_rows
+typed_layer_rows_only at m =
+    then_only (needed (codes "ty") layer_type at m) (λ (ty : LayerType). layer_rows [] ty at m) (λ ty. layer_rows_only ty at m)
+
+-- The document is well-formed, whatever its uses of slots are.
+abbrev IsWellFormedDoc : Doc → Type 0
+IsWellFormedDoc d = (uses : List Use) → IsWellFormed (record { doc = d; uses = uses })
+
+well_formed_doc : (w h fr : ℤ) → above_zero fr ≡ true → (time : RunningTime) (layers : List Layer)
+    → AreFew max_layers LayerIsGood layers → IsWellFormedDoc (doc_of w h fr time layers)
+well_formed_doc w h fr above time layers few uses =
+    let d = doc_of w h fr time layers in
+    let main = main_comp layers in
+    record {
+      some = omega arith;
+      few_comps = omega arith;
+      few_layers = All-cons HasFewLayers main [] few.0 (All-nil HasFewLayers);
+      rate = lt_z_yes (subst T (sym above) tt);
+      slots = All-cons (LayersHaveValues d) main [] (λ k other within. (few.1 k other within).0 d) (All-nil (LayersHaveValues d));
+      built = All-cons LayersAreBuilt main [] (λ k other within. (few.1 k other within).1) (All-nil LayersAreBuilt);
+    }
+
+root_rows_only : RowsGiveOnly IsWellFormedDoc (root_rows [])
+unfolding root_rows
+root_rows_only at m =
+    row_only (needed_only (codes "layers") (list_only max_layers (object_only typed_layer_rows_only)) at m)
+    (also_only (optional (codes "assets") (list max_assets (object asset_rows)) [] at m)
+    (also_only (unbuilt (codes "slots") at m)
+    (any_row_only (running_time_rows at m)
+    (row_only (needed_only (codes "fr") (number_only above_zero) at m)
+    (any_row_only (needed (codes "h") (number not_below_zero) at m)
+    (any_row_only (needed (codes "w") (number not_below_zero) at m)
+    (good_only (λ (w h fr : ℤ) (time : RunningTime) (layers : List Layer). doc_of w h fr time layers) well_formed_doc)))))))
+
+pub value_is_well_formed : (j : Json) (r : Read) → (document j).value ≡ Some r.doc → IsWellFormed r
+value_is_well_formed j r is =
+    let found : GivesOnly IsWellFormedDoc (document j) = object_only root_rows_only [] j in
+    let doc : IsWellFormedDoc r.doc = subst (λ (v : Option Doc). IfSome v IsWellFormedDoc) is found.only in
+    doc r.uses

@@ -1,0 +1,5 @@
+pub mod Color
+pub mod Feature
+pub mod Layer
+pub mod Root
+pub mod Build

@@ -1,0 +1,58 @@
+-- What a document says: the table of the members of the whole animation. The members are those of the Lottie
+-- Specification 1.0, "Animation"; which of them are read, and the order of their faults, is this project's own.
+use Rattle.std.specs.Prelude.{ℕ, ℤ, int_lt, List, [], ◌∷◌, None, codes, if◌then◌else◌}
+use Rattle.lot_types.specs.declared.fault.FaultCode.TheVariants.{Order}
+use Rattle.lot_types.specs.declared.comp.Comp.{Comp}
+use Rattle.lot_types.specs.declared.doc.Doc.{Doc}
+use Rattle.lot_types.specs.declared.layer.Layer.{Layer}
+use Rattle.lot_types.specs.WellFormed.{max_layers}
+use Rattle.lot_json.specs.declared.tree.json.Json.{Json}
+use Rattle.lot_json.specs.declared.tree.pointer.Step.{Step}
+use Rattle.lot_read.specs.Findings.{Findings, Row, under, good, bad, ◌⊛◌, ◌also◌, ◌then◌}
+use Rattle.lot_read.specs.Lists.{list}
+use Rattle.lot_read.specs.Number.{any, not_below_zero, above_zero, number}
+use Rattle.lot_read.specs.Rows.{needed, optional, unbuilt, object}
+use Rattle.lot_read.specs.SlotNames.{Names}
+use Rattle.lot_doc.specs.declared.running_time.RunningTime.{RunningTime}
+use Rattle.lot_doc.specs.Feature.{asset_rows}
+use Rattle.lot_doc.specs.Layer.{typed_layer_rows}
+
+-- The greatest number of assets.
+abbrev pub max_assets : ℕ
+max_assets = 1024
+
+-- An animation ends after its start.
+abbrev pub in_order : List Step → RunningTime → Findings RunningTime
+in_order at time = if int_lt time.ip time.op then good time else bad Order (under at (codes "op"))
+
+unfoldable pub running_time_rows : Row RunningTime
+running_time_rows at m =
+    (good (λ ip op. record { ip = ip; op = op })
+    ⊛ needed (codes "ip") (number any) at m
+    ⊛ needed (codes "op") (number any) at m)
+    then in_order at
+
+-- The main composition, which has no name.
+abbrev pub main_comp : List Layer → Comp
+main_comp layers = record { id = None; layers = layers }
+
+-- The document of this size, frame rate and time whose one composition has these layers. It has no slots.
+abbrev pub doc_of : ℤ → ℤ → ℤ → RunningTime → List Layer → Doc
+doc_of w h fr time layers =
+    record { w = w; h = h; fr = fr; ip = time.ip; op = time.op; slots = []; comps = main_comp layers ∷ [] }
+
+-- The whole animation.
+unfoldable pub root_rows : Names → Row Doc
+root_rows names at m =
+    good (λ w h fr time layers. doc_of w h fr time layers)
+    ⊛ needed (codes "w") (number not_below_zero) at m
+    ⊛ needed (codes "h") (number not_below_zero) at m
+    ⊛ needed (codes "fr") (number above_zero) at m
+    ⊛ running_time_rows at m
+    also unbuilt (codes "slots") at m
+    also optional (codes "assets") (list max_assets (object asset_rows)) [] at m
+    ⊛ needed (codes "layers") (list max_layers (object (typed_layer_rows names))) at m
+
+-- A document. It has no slots yet.
+abbrev pub document : Json → Findings Doc
+document j = object (root_rows []) [] j

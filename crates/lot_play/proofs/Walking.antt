@@ -1,0 +1,60 @@
+-- One layer more is written.
+use Rattle.std.proofs.Common.{◌≡◌, ℕ, ℤ, List, suc, true, false, Bool, Option, None, Some, option_map, refl, sym, subst, ap, ◌∙◌, if◌then◌else◌}
+use Rattle.lot_comp.specs.Frame.{evaluated, node_with, piece_at, visit_of, node_of, with_layer, is_drawn, nodes}
+use Rattle.lot_comp.specs.Full.{layer_at}
+use Rattle.lot_comp.specs.Piece.{piece_of}
+use Rattle.lot_play.specs.Walk.{after_frame, after_piece}
+use Rattle.lot_play.specs.Picture.{picture_text}
+use Rattle.lot_svg.proofs.Items.{writes_svg}
+use Rattle.lot_svg.specs.Written.{Written, write, begin, finish, unwritten}
+use Rattle.lot_types.specs.declared.doc.Doc.{Doc}
+use Rattle.lot_types.specs.declared.layer.Layer.{Layer}
+use Rattle.lot_types.specs.declared.matte.Matte.TheVariants.{No}
+use Rattle.lot_types.specs.declared.piece.Piece.{Piece}
+use Rattle.lot_types.specs.Frame.{Frame, nothing, Visit}
+
+-- A piece, and the pieces of the layers after it.
+with_rest : (p : Piece) (rest : Option (Frame Piece)) (s : Written)
+    → option_map (λ f. write (λ q. q) f s) (node_with No None (Some p) (Some nothing) (Some nothing) rest)
+    ≡ option_map (λ f. write (λ q. q) f (after_piece p s)) rest
+with_rest p None s = refl
+with_rest p (Some f) s = refl
+
+one_written : (d : Doc) (c l : ℕ) (t : ℤ) (p : Piece) (rest : Frame Visit) (s : Written) → piece_of d c l t ≡ Some p
+    → after_frame d (node_of c l t rest) s ≡ after_frame d rest (after_piece p s)
+one_written d c l t p rest s is =
+    ap (λ (o : Option Piece). option_map (λ f. write (λ q. q) f s) (node_with No None o (Some nothing) (Some nothing) (evaluated (piece_at d) rest))) is
+    ∙ with_rest p (evaluated (piece_at d) rest) s
+
+picked : (b : Bool) (x y : Frame Visit) → b ≡ true → (if b then x else y) ≡ x
+picked true x y e = refl
+picked false x y e = absurd cc
+
+passed : (b : Bool) (x y : Frame Visit) → b ≡ false → (if b then x else y) ≡ y
+passed true x y e = absurd cc
+passed false x y e = refl
+
+-- The layer after the first l is drawn.
+pub drawn : (d : Doc) (c l : ℕ) (t : ℤ) (layer : Layer) (p : Piece) (s now : Written) → layer_at d c l ≡ Some layer
+    → is_drawn t layer ≡ true → piece_of d c l t ≡ Some p → now ≡ after_piece p s
+    → after_frame d (nodes d c t l) now ≡ after_frame d (nodes d c t (suc l)) s
+drawn d c l t layer p s now there is piece e =
+    let rest = nodes d c t l in
+    ap (λ (z : Written). after_frame d rest z) e
+    ∙ sym (one_written d c l t p rest s piece)
+    ∙ ap (λ (f : Frame Visit). after_frame d f s) (sym (ap (λ (o : Option Layer). with_layer c l t o rest) there ∙ picked (is_drawn t layer) (node_of c l t rest) rest is))
+
+-- It is not drawn.
+pub not_drawn : (d : Doc) (c l : ℕ) (t : ℤ) (layer : Layer) (s : Written) → layer_at d c l ≡ Some layer → is_drawn t layer ≡ false
+    → after_frame d (nodes d c t l) s ≡ after_frame d (nodes d c t (suc l)) s
+not_drawn d c l t layer s there is =
+    let rest = nodes d c t l in
+    ap (λ (f : Frame Visit). after_frame d f s) (sym (ap (λ (o : Option Layer). with_layer c l t o rest) there ∙ passed (is_drawn t layer) (node_of c l t rest) rest is))
+
+-- The text of the frame, from what is written after its layers.
+pub gives_text : (d : Doc) (o : Option (Frame Piece)) (s : Written)
+    → option_map (λ f. write (λ p. p) f (begin d.w d.h unwritten)) o ≡ Some s → option_map (picture_text d) o ≡ Some (finish s)
+gives_text d None s is = absurd cc
+gives_text d (Some f) s is =
+    let same : write (λ p. p) f (begin d.w d.h unwritten) ≡ s = (let m = is in cc) in
+    ap (λ (b : List ℕ). Some b) (sym (writes_svg d.w d.h (λ p. p) f) ∙ ap finish same)

@@ -1,0 +1,146 @@
+//! The frame of a document, as SVG.
+ghost use Rattle.std.specs.Prelude.{◌≡◌, ◌+◌, ◌≤◌, ◌<◌, suc, Some, length, fold, OnOk, IfOk};
+ghost use Rattle.std.specs.List.{All};
+ghost use Rattle.lot_comp.specs.Frame.{frame, nodes, is_drawn as drawn_at, is_visible as visible_at, draws as draws_in};
+ghost use Rattle.lot_comp.specs.Full.{layer_at};
+ghost use Rattle.lot_comp.specs.Piece.{IsPlain, IsPlainPaint};
+ghost use Rattle.lot_play.specs.Picture.{svg_of};
+ghost use Rattle.lot_play.specs.Walk.{after_frame, after_piece};
+ghost use Rattle.lot_refs.specs.Linked.{layers_of};
+ghost use Rattle.lot_svg.specs.Written.{paint};
+ghost use Rattle.lot_types.specs.WellFormed.{max_layers};
+
+use lot_comp::piece;
+use lot_refs::Linked;
+use lot_svg::Writer;
+use lot_types::{Bytes, Layer, LayerKind, Memory, Paint, Piece, Steps, Time};
+use std::alloc::Global;
+use std::sync::ledger::Ledger;
+
+/// The frame of a document at a time, in millionths of a frame, as SVG. Each layer that it shows is evaluated once. Want of
+/// memory is the one refusal.
+#[tactic(auto, unfolding(crate::specs::Picture::svg_of))]
+pub fn draw_frame<L: Ledger>(
+    alloc: Global,
+    d: &Linked,
+    t: Time,
+    steps: &mut Steps<L>,
+) -> Result<Bytes, Memory>
+    ensures svg { IfOk result (λ svg. svg_of d.now t ≡ Some svg) }
+    ensures counted { steps.new ≤ steps.old + max_layers }
+{
+    let doc = d.doc();
+    let main = doc.comps.items().len() - 1;
+    let mut w = Writer::new(alloc)?;
+    w.begin(doc.w, doc.h)?;
+    write_layers(alloc, d, main as u32, t, &mut w, steps)?;
+    w.end()
+}
+
+/// Writes the layers of composition `c` that are drawn, from the last to the first.
+fn write_layers<L: Ledger>(
+    alloc: Global,
+    d: &Linked,
+    c: u32,
+    t: Time,
+    w: &mut Writer,
+    steps: &mut Steps<L>,
+) -> Result<(), Memory>
+    requires comp { c < length d.now.comps }
+    ensures written { OnOk result (after_frame d.now (frame d.now c t) w.old ≡ Some w.new) }
+    ensures counted { steps.new ≤ steps.old + max_layers }
+{
+    let mut l = layer_count(d, c);
+    while l > 0 {
+        l -= 1;
+        write_layer(alloc, d, c, l, t, w, steps)?;
+    }
+    Ok(())
+}
+
+/// Writes layer `l` of composition `c`, where it is drawn.
+fn write_layer<L: Ledger>(
+    alloc: Global,
+    d: &Linked,
+    c: u32,
+    l: u32,
+    t: Time,
+    w: &mut Writer,
+    steps: &mut Steps<L>,
+) -> Result<(), Memory>
+    requires comp { c < length d.now.comps }
+    requires layer { l < length (layers_of d.now c) }
+    ensures written { OnOk result (after_frame d.now (nodes d.now c t l) w.new
+        ≡ after_frame d.now (nodes d.now c t (suc l)) w.old) }
+    ensures counted { steps.new ≤ steps.old + 1 }
+{
+    if !is_drawn(layer_of(d, c, l), t) {
+        return Ok(());
+    }
+    let p = piece(alloc, d, c, l, t, steps)?;
+    write_piece(w, &p)
+}
+
+/// The number of layers of composition `c`.
+fn layer_count(d: &Linked, c: u32) -> u32
+    requires { c < length d.now.comps }
+    ensures value { result ≡ length (layers_of d.now c) }
+    ensures few { result ≤ max_layers }
+{
+    d.doc().comps.items()[c as usize].layers.items().len() as u32
+}
+
+/// Layer `l` of composition `c`.
+fn layer_of<'a>(d: &'a Linked, c: u32, l: u32) -> &'a Layer
+    requires comp { c < length d.now.comps }
+    requires layer { l < length (layers_of d.now c) }
+    ensures { layer_at d.now c l ≡ Some result.now }
+{
+    &d.doc().comps.items()[c as usize].layers.items()[l as usize]
+}
+
+/// Whether a layer is drawn by itself at a time.
+fn is_drawn(layer: &Layer, t: Time) -> bool
+    ensures { result ≡ drawn_at t layer.now }
+{
+    is_visible(layer, t) && draws(&layer.kind) && !layer.td
+}
+
+fn is_visible(layer: &Layer, t: Time) -> bool
+    ensures { result ≡ visible_at t layer.now }
+{
+    !layer.hidden && layer.ip.get() <= t.get() && t.get() < layer.op.get()
+}
+
+/// Whether layers of a kind draw anything.
+fn draws(kind: &LayerKind) -> bool
+    ensures { result ≡ draws_in kind.now }
+{
+    match kind {
+        LayerKind::Precomp { .. } => true,
+        LayerKind::Solid { .. } => true,
+        LayerKind::Null => false,
+        LayerKind::Shape(_) => true,
+    }
+}
+
+/// Writes a layer without a matte: its group, with its paints in it.
+fn write_piece(w: &mut Writer, p: &Piece) -> Result<(), Memory>
+    requires { IsPlain p.now }
+    ensures { OnOk result (w.new ≡ after_piece p.now w.old) }
+{
+    w.open_layer(None, p)?;
+    write_paints(w, p.paints.items())?;
+    w.close_layer(false)
+}
+
+/// Writes paints in order.
+fn write_paints(w: &mut Writer, paints: &[Paint]) -> Result<(), Memory>
+    requires { All IsPlainPaint paints.now }
+    ensures { OnOk result (w.new ≡ fold paint w.old paints.now) }
+{
+    for p in paints {
+        w.paint(p)?;
+    }
+    Ok(())
+}

@@ -1,0 +1,4 @@
+pub mod Chains
+pub mod Faultless
+pub mod FirstFaults
+pub mod Named

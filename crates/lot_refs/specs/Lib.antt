@@ -1,0 +1,4 @@
+pub mod Linked
+pub mod Links
+pub mod Parents
+pub mod RefFaults

@@ -1,0 +1,8 @@
+use Rattle.std.proofs.Common.{[]}
+use Rattle.lot_svg.specs.Layer.{items}
+use Rattle.lot_svg.proofs.Order.{follows}
+use Rattle.lot_svg.proofs.InWords.{in_order}
+use Rattle.lot_svg.proofs.laws.identifiers_open_in_order.Goals as goal
+
+pub returns : goal.returns
+returns c = λ piece f. in_order 1 (items piece f 1) (follows piece f 1 [])

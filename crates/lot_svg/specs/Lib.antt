@@ -1,0 +1,11 @@
+pub mod Element
+pub mod Identifiers
+pub mod Items
+pub mod Layer
+pub mod Mask
+pub mod Matte
+pub mod Number
+pub mod Paint
+pub mod PathData
+pub mod Svg
+pub mod Written

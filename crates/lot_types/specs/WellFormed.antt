@@ -1,0 +1,48 @@
+-- Documents as the reader answers them: all that is asked of a document but that its references hold.
+use Rattle.std.specs.Prelude.{◌≡◌, ℕ, pos, ◌<◌, ◌≤◌, ◌<ℤ◌, [], length}
+use Rattle.std.specs.List.{All}
+use Rattle.lot_types.specs.declared.comp.Comp.{Comp}
+use Rattle.lot_types.specs.declared.doc.Doc.{Doc}
+use Rattle.lot_types.specs.declared.layer.Layer.{Layer}
+use Rattle.lot_types.specs.declared.layer.LayerKind.{LayerKind}
+use Rattle.lot_types.specs.declared.layer.LayerKind.TheVariants as kind
+use Rattle.lot_types.specs.declared.matte.Matte.TheVariants.{No}
+use Rattle.lot_types.specs.declared.read.Read.{Read}
+use Rattle.lot_types.specs.Slots.{HasValues}
+
+-- The greatest number of layers of a composition, and of compositions: 1,024 assets and the main composition.
+abbrev pub max_layers : ℕ
+max_layers = 4096
+
+abbrev pub max_comps : ℕ
+max_comps = 1025
+
+abbrev pub HasFewLayers : Comp → Type 0
+HasFewLayers comp = length comp.layers ≤ max_layers
+
+-- The transform of each layer of a composition has values in the document.
+abbrev pub LayersHaveValues : Doc → Comp → Type 0
+LayersHaveValues d comp = All (λ layer. HasValues d layer.ks) comp.layers
+
+-- So far a layer is a solid or a null layer, without masks and without a matte.
+abbrev pub IsBuiltKind : LayerKind → Type 0
+IsBuiltKind (kind.Solid w h rgb) = Unit {0}
+IsBuiltKind kind.Null = Unit {0}
+IsBuiltKind (kind.Precomp name w h st sr tm) = ⊥
+IsBuiltKind (kind.Shape items) = ⊥
+
+pub record IsBuilt (layer : Layer) : Type 0 where
+  pub kind : IsBuiltKind layer.kind
+  pub matte : layer.matte ≡ No
+  pub masks : layer.masks ≡ []
+
+abbrev pub LayersAreBuilt : Comp → Type 0
+LayersAreBuilt comp = All IsBuilt comp.layers
+
+pub record IsWellFormed (r : Read) : Type 0 where
+  pub some : 0 < length r.doc.comps
+  pub few_comps : length r.doc.comps ≤ max_comps
+  pub few_layers : All HasFewLayers r.doc.comps
+  pub rate : pos 0 <ℤ r.doc.fr
+  pub slots : All (LayersHaveValues r.doc) r.doc.comps
+  pub built : All LayersAreBuilt r.doc.comps
