@@ -1,13 +1,12 @@
 -- The frame of a composition at a time: the layers that it shows, as a tree. After the Lottie Specification 1.0,
 -- "Layers". Mattes and inner compositions come with their layers.
-use Rattle.std.specs.Prelude.{ℕ, ℤ, zero, suc, ◌-◌, Bool, true, false, not, ◌&&◌, int_le, int_lt, length, Option, Some, None, if◌then◌else◌}
+use Rattle.std.specs.Prelude.{ℕ, ℤ, ◌-◌, Bool, not, ◌&&◌, int_le, int_lt, List, [], ◌∷◌, length, reverse, Option, Some, None, if◌then◌else◌}
 use Rattle.lot_comp.specs.Full.{layer_at}
 use Rattle.lot_comp.specs.Piece.{piece_of}
+use Rattle.lot_refs.specs.Drawn.{drawn_layers}
 use Rattle.lot_refs.specs.Linked.{layers_of}
 use Rattle.lot_types.specs.declared.doc.Doc.{Doc}
 use Rattle.lot_types.specs.declared.layer.Layer.{Layer}
-use Rattle.lot_types.specs.declared.layer.LayerKind.{LayerKind}
-use Rattle.lot_types.specs.declared.layer.LayerKind.TheVariants as kind
 use Rattle.lot_types.specs.declared.matte.Matte.{Matte}
 use Rattle.lot_types.specs.declared.matte.Matte.TheVariants.{No}
 use Rattle.lot_types.specs.declared.piece.Piece.{Piece}
@@ -16,17 +15,6 @@ use Rattle.lot_types.specs.Frame.{Frame, nothing, node, Visit, ClipSize}
 -- A layer that is not hidden is visible from its first moment to before its last.
 abbrev pub is_visible : ℤ → Layer → Bool
 is_visible t layer = not layer.hidden && int_le layer.ip t && int_lt t layer.op
-
--- A null layer draws nothing.
-abbrev pub draws : LayerKind → Bool
-draws (kind.Precomp name w h st sr tm) = true
-draws (kind.Solid w h rgb) = true
-draws kind.Null = false
-draws (kind.Shape items) = true
-
--- The layer is drawn by itself at a time.
-abbrev pub is_drawn : ℤ → Layer → Bool
-is_drawn t layer = is_visible t layer && draws layer.kind && not layer.td
 
 abbrev pub visit_of : ℕ → ℕ → ℤ → Visit
 visit_of c l t = record { comp = c; layer = l; time = t }
@@ -37,15 +25,16 @@ node_of c l t rest = node (visit_of c l t) No nothing None nothing rest
 
 abbrev pub with_layer : ℕ → ℕ → ℤ → Option Layer → Frame Visit → Frame Visit
 with_layer c l t None rest = rest
-with_layer c l t (Some layer) rest = if is_drawn t layer then node_of c l t rest else rest
+with_layer c l t (Some layer) rest = if is_visible t layer then node_of c l t rest else rest
 
--- The first n layers of composition c, from the last of them to the first, so that the first lies on top.
-abbrev pub nodes : Doc → ℕ → ℤ → ℕ → Frame Visit
-nodes d c t zero = nothing
-nodes d c t (suc l) = with_layer c l t (layer_at d c l) (nodes d c t l)
+-- Those of the layers with these numbers that are visible, in this order.
+abbrev pub nodes : Doc → ℕ → ℤ → List ℕ → Frame Visit
+nodes d c t [] = nothing
+nodes d c t (l ∷ ls) = with_layer c l t (layer_at d c l) (nodes d c t ls)
 
+-- The layers of composition c that are drawn by themselves, from the last to the first, so that the first lies on top.
 abbrev pub frame : Doc → ℕ → ℤ → Frame Visit
-frame d c t = nodes d c t (length (layers_of d c))
+frame d c t = nodes d c t (reverse (drawn_layers (layers_of d c)))
 
 -- The main composition is the last.
 abbrev pub main_comp : Doc → ℕ

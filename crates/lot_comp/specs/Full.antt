@@ -1,7 +1,7 @@
 -- The full matrix of a layer: its own, and then that of its parent, after the Lottie Specification 1.0, "Layers". The
 -- product rounds, so that its order matters.
 use Rattle.std.specs.Prelude.{ℕ, ℤ, List, [], ◌∷◌, Option, Some, None, slice_get, option_and_then}
-use Rattle.lot_geom.specs.Matrix.{matrix_product}
+use Rattle.lot_group.specs.Product.{then_both}
 use Rattle.lot_prop.specs.Transform.{own_matrix}
 use Rattle.lot_refs.specs.Linked.{layers_of}
 use Rattle.lot_refs.specs.Parents.{ancestors_of}
@@ -16,12 +16,6 @@ layer_at d c l = slice_get (layers_of d c) l
 -- Its own matrix at a time.
 unfoldable pub own_at : Doc → ℕ → ℤ → ℕ → Option Matrix
 own_at d c t l = option_and_then (λ layer. own_matrix d layer.ks t) (layer_at d c l)
-
--- One map and then another, where there are both.
-abbrev pub then_both : Option Matrix → Option Matrix → Option Matrix
-then_both (Some m) (Some n) = Some (matrix_product m n)
-then_both (Some m) None = None
-then_both None n = None
 
 -- The matrix of layer l, and then the product of the layers after it on a chain.
 abbrev pub chain_product : Doc → ℕ → ℤ → ℕ → List ℕ → Option Matrix

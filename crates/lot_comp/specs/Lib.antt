@@ -1,3 +1,4 @@
 pub mod Frame
 pub mod Full
 pub mod Piece
+pub mod Shape

@@ -1,14 +1,14 @@
 -- A layer of a composition at a time, evaluated from scratch. Whether it is visible plays no part.
-use Rattle.std.specs.Prelude.{◌≡◌, ℕ, ℤ, pos, ◌^◌, true, false, List, [], ◌∷◌, Option, Some, None, option_map, option_and_then}
+use Rattle.std.specs.Prelude.{◌≡◌, ℕ, ℤ, pos, ◌^◌, true, false, List, [], ◌∷◌, Option, Some, None, option_and_then}
 use Rattle.std.specs.List.{All}
 use Rattle.lot_comp.specs.Full.{layer_at, full_matrix}
+use Rattle.lot_comp.specs.Shape.{shape_paints}
 use Rattle.lot_geom.specs.Matrix.{identity}
 use Rattle.lot_prop.specs.Transform.{opacity_value}
 use Rattle.lot_types.specs.declared.brush.Brush.TheVariants.{Fill}
 use Rattle.lot_types.specs.declared.contour.Contour.{Contour}
 use Rattle.lot_types.specs.declared.doc.Doc.{Doc}
-use Rattle.lot_types.specs.declared.ink.Ink.{Ink}
-use Rattle.lot_types.specs.declared.ink.Ink.TheVariants.{Flat, Linear, Radial}
+use Rattle.lot_types.specs.declared.ink.Ink.TheVariants.{Flat}
 use Rattle.lot_types.specs.declared.layer.Layer.{Layer}
 use Rattle.lot_types.specs.declared.layer.LayerKind.{LayerKind}
 use Rattle.lot_types.specs.declared.layer.LayerKind.TheVariants as kind
@@ -19,6 +19,7 @@ use Rattle.lot_types.specs.declared.piece.Piece.{Piece}
 use Rattle.lot_types.specs.declared.point.Point.{Point}
 use Rattle.lot_types.specs.declared.rgb.Rgb.{Rgb}
 use Rattle.lot_types.specs.declared.seg.Seg.{Seg}
+use Rattle.lot_types.specs.Flat.{IsFlat}
 
 abbrev pub corner : ℤ → ℤ → Point
 corner x y = record { x = x; y = y }
@@ -42,12 +43,12 @@ solid_paint w h rgb = record {
   contours = rectangle w h ∷ [];
 }
 
--- What a layer shows. Compositions and shapes are not evaluated yet.
-abbrev pub paints_of : LayerKind → Option (List Paint)
-paints_of (kind.Solid w h rgb) = Some (solid_paint w h rgb ∷ [])
-paints_of kind.Null = Some []
-paints_of (kind.Precomp name w h st sr tm) = None
-paints_of (kind.Shape items) = None
+-- What a layer shows at a time. Compositions are not evaluated yet.
+abbrev pub paints_of : Doc → ℤ → LayerKind → Option (List Paint)
+paints_of d t (kind.Solid w h rgb) = Some (solid_paint w h rgb ∷ [])
+paints_of d t kind.Null = Some []
+paints_of d t (kind.Precomp name w h st sr tm) = None
+paints_of d t (kind.Shape items) = shape_paints d t items
 
 -- A layer without masks.
 abbrev pub unmasked : Matrix → ℤ → List Paint → Piece
@@ -76,22 +77,16 @@ without_masks (mask ∷ masks) evaluated = None
 abbrev pub piece_of_layer : Doc → ℕ → ℕ → ℤ → Layer → Option Piece
 piece_of_layer d c l t layer =
     without_masks layer.masks
-    (piece_with (full_matrix d c l t) (opacity_value d layer.ks.o t) (paints_of layer.kind))
+    (piece_with (full_matrix d c l t) (opacity_value d layer.ks.o t) (paints_of d t layer.kind))
 
 -- Layer l of composition c at a time.
 unfoldable pub piece_of : Doc → ℕ → ℕ → ℤ → Option Piece
 piece_of d c l t = option_and_then (piece_of_layer d c l t) (layer_at d c l)
 
--- What is drawn so far: a piece without masks, whose paints are fills of one color by the rule `nonzero`.
-abbrev pub IsFlatInk : Ink → Type 0
-IsFlatInk (Flat rgb) = Unit {0}
-IsFlatInk (Linear from to stops) = ⊥
-IsFlatInk (Radial center radius focus stops) = ⊥
-
-pub record IsPlainPaint (p : Paint) : Type 0 where
-  pub ink : IsFlatInk p.ink
-  pub brush : p.brush ≡ Fill false
+-- What is drawn so far: a piece without masks, whose paints are of one color.
+abbrev pub IsFlatPaint : Paint → Type 0
+IsFlatPaint p = IsFlat p.ink
 
 pub record IsPlain (p : Piece) : Type 0 where
   pub unmasked : p.masked ≡ false
-  pub paints : All IsPlainPaint p.paints
+  pub paints : All IsFlatPaint p.paints

@@ -1,15 +1,16 @@
 //! Layers at a time.
 ghost use Rattle.std.specs.Prelude.{◌≡◌, ◌<◌, ◌+◌, Some, length, IfOk};
-ghost use Rattle.lot_comp.specs.Piece.{piece_of, paints_of as paints_in, IsPlain, IsPlainPaint};
+ghost use Rattle.lot_comp.specs.Piece.{piece_of, paints_of as paints_in, IsPlain, IsFlatPaint};
 ghost use Rattle.std.specs.List.{All};
 ghost use Rattle.lot_refs.specs.Linked.{layers_of};
-ghost use Rattle.lot_types.specs.WellFormed.{IsBuiltKind};
+ghost use Rattle.lot_types.specs.WellFormed.{HasKindValues, IsBuiltKind};
 
 use crate::full_matrix::full_of;
+use crate::shape::shape_paints;
 use crate::solid::solid_paint;
 use lot_prop::opacity_at;
 use lot_refs::Linked;
-use lot_types::{LayerKind, Memory, Paint, Piece, Seq, Steps, Time};
+use lot_types::{Doc, LayerKind, Memory, Paint, Piece, Seq, Steps, Time};
 use std::alloc::Global;
 use std::sync::ledger::Ledger;
 
@@ -36,7 +37,7 @@ pub fn piece<L: Ledger>(
     let doc = d.doc();
     let layer = &doc.comps.items()[c as usize].layers.items()[l as usize];
     let matrix = full_of(alloc, d, c, l, t)?;
-    let paints = paints_of(alloc, &layer.kind)?;
+    let paints = paints_of(alloc, doc, &layer.kind, t)?;
     Ok(Piece {
         matrix,
         opacity: opacity_at(doc, &layer.ks.o, t),
@@ -48,11 +49,12 @@ pub fn piece<L: Ledger>(
     })
 }
 
-/// What a layer shows.
-fn paints_of(alloc: Global, kind: &LayerKind) -> Result<Seq<Paint>, Memory>
-    requires { IsBuiltKind kind.now }
-    ensures value { IfOk result (λ paints. paints_in kind.now ≡ Some paints) }
-    ensures plain { IfOk result (λ paints. All IsPlainPaint paints) }
+/// What a layer shows at a time.
+fn paints_of(alloc: Global, d: &Doc, kind: &LayerKind, t: Time) -> Result<Seq<Paint>, Memory>
+    requires built { IsBuiltKind kind.now }
+    requires values { HasKindValues d.now kind.now }
+    ensures value { IfOk result (λ paints. paints_in d.now t kind.now ≡ Some paints) }
+    ensures flat { IfOk result (λ paints. All IsFlatPaint paints) }
 {
     match kind {
         LayerKind::Solid { w, h, rgb } => {
@@ -62,6 +64,6 @@ fn paints_of(alloc: Global, kind: &LayerKind) -> Result<Seq<Paint>, Memory>
         }
         LayerKind::Null => Ok(Seq::new(alloc)),
         LayerKind::Precomp { .. } => unreachable!(),
-        LayerKind::Shape(_) => unreachable!(),
+        LayerKind::Shape(items) => shape_paints(alloc, d, items, t),
     }
 }

@@ -28,6 +28,7 @@ pub(crate) fn full_of(alloc: Global, d: &Linked, c: u32, l: u32, t: Time) -> Res
 }
 
 /// The product along a chain, from its end: the matrix of the last layer is the right factor of all others.
+#[tactic(auto, unfolding(lot_group::specs::Product::then_both))]
 fn product_of(d: &Linked, c: u32, l: u32, rest: &[u32], t: Time) -> Matrix
     requires comp { c < length d.now.comps }
     requires first { l < length (layers_of d.now c) }

@@ -7,6 +7,7 @@
 mod chain;
 mod evaluated;
 mod full_matrix;
+mod shape;
 mod solid;
 
 pub use evaluated::piece;

@@ -1,7 +1,8 @@
 -- Each table of the document keeps that a tree without faults has a value.
-use Rattle.std.proofs.Common.{◌==◌, ℤ, pos, ◌*◌, ◌%◌, ◌^◌, false, int_lt, unsigned_abs, List, [], ◌∷◌, Option, Some, None, codes}
+use Rattle.std.proofs.Common.{◌==◌, ℤ, pos, ◌*◌, ◌%◌, ◌^◌, false, int_lt, unsigned_abs, List, [], Option, Some, None, codes}
 use Rattle.std.specs.Ordering.{int_eq}
 use Rattle.lot_types.specs.declared.fault.FaultCode.TheVariants.{Kind, Value, Order, Unsupported}
+use Rattle.lot_types.specs.declared.item.Item.{Item}
 use Rattle.lot_types.specs.declared.layer.LayerKind.{LayerKind}
 use Rattle.lot_types.specs.declared.layer.LayerKind.TheVariants as kind
 use Rattle.lot_types.specs.declared.rgb.Rgb.{Rgb}
@@ -10,19 +11,21 @@ use Rattle.lot_json.specs.declared.tree.json.Json.{Json, out-Json}
 use Rattle.lot_json.specs.declared.tree.json.Json.TheOpen as tree
 use Rattle.lot_json.specs.declared.tree.pointer.Step.{Step}
 use Rattle.lot_read.specs.Findings.{Findings, under, bad}
+use Rattle.lot_read.specs.Lists.{max_list_items}
 use Rattle.lot_read.specs.Number.{any, not_below_zero, above_zero}
 use Rattle.lot_read.specs.SlotNames.{Names}
 use Rattle.lot_read.specs.Sound.{IsSound, ReadsSoundly, RowsAreSound}
 use Rattle.lot_read.proofs.Sound.{good_sound, bad_sound, if_sound, row_sound, also_sound, then_sound, needed_sound, optional_sound, maybe_sound, unbuilt_sound, object_sound, list_sound}
-use Rattle.lot_read.proofs.SoundValues.{number_sound, flag_sound, unset_sound}
+use Rattle.lot_read.proofs.SoundValues.{number_sound, flag_sound}
 use Rattle.lot_read.proofs.SoundTransform.{transform_sound}
 use Rattle.lot_doc.specs.declared.layer_type.LayerType.{LayerType}
-use Rattle.lot_doc.specs.declared.layer_type.LayerType.TheVariants.{Solid, Null}
+use Rattle.lot_doc.specs.declared.layer_type.LayerType.TheVariants.{Solid, Null, Shape}
 use Rattle.lot_doc.specs.declared.running_time.RunningTime.{RunningTime}
 use Rattle.lot_doc.specs.Color.{good_or_value, color_of, hex_color}
-use Rattle.lot_doc.specs.Feature.{normal_blend, without_items, no_items, left_out, asset_rows}
-use Rattle.lot_doc.specs.Layer.{type_or_fault, layer_type, header_rows, solid_rows, type_rows, kind_rows, content_rows, layer_rows, typed_layer_rows}
+use Rattle.lot_doc.specs.Layer.{type_or_fault, layer_type, header_rows, solid_rows, shape_rows, type_rows, kind_rows, content_rows, layer_rows, typed_layer_rows}
 use Rattle.lot_doc.specs.Root.{max_assets, in_order, running_time_rows, root_rows, document}
+use Rattle.lot_doc.proofs.FaultlessFeatures.{left_out_sound, asset_sound}
+use Rattle.lot_doc.proofs.FaultlessItems.{item_sound}
 
 good_or_value_sound : {A : Type 0} (at : List Step) (o : Option A) → IsSound (good_or_value at o)
 good_or_value_sound at (Some x) = good_sound x
@@ -36,43 +39,13 @@ color_sound at j =
       | _ ↦ bad_sound Kind at
     ]
 
--- The features that are left out.
-normal_blend_sound : ReadsSoundly normal_blend
-unfolding normal_blend
-normal_blend_sound at j = then_sound _ (number_sound any at j) (λ z. if_sound (int_eq z (pos 0)) (good_sound tt) (bad_sound Unsupported at))
-
-without_items_sound : (at : List Step) (js : List Json) → IsSound (without_items at js)
-without_items_sound at [] = good_sound tt
-without_items_sound at (j ∷ js) = bad_sound Unsupported at
-
-no_items_sound : ReadsSoundly no_items
-unfolding no_items
-no_items_sound at j =
-    elim (out-Json j) as (λ v. let found : Findings (Unit {0}) = elim v [ tree.Items js ↦ without_items at js | _ ↦ bad Kind at ] in IsSound found) [
-      | tree.Items js ↦ without_items_sound at js
-      | _ ↦ bad_sound Kind at
-    ]
-
-left_out_sound : RowsAreSound left_out
-unfolding left_out
-left_out_sound at m =
-    also_sound (also_sound (also_sound (also_sound (also_sound (good_sound tt)
-    (optional_sound (codes "ddd") false unset_sound at m))
-    (optional_sound (codes "ao") false unset_sound at m))
-    (optional_sound (codes "bm") tt normal_blend_sound at m))
-    (optional_sound (codes "ef") tt no_items_sound at m))
-    (optional_sound (codes "sy") tt no_items_sound at m)
-
-asset_sound : RowsAreSound asset_rows
-unfolding asset_rows
-asset_sound at m = bad_sound Unsupported at
-
 -- Layers.
 type_or_fault_sound : (at : List Step) (z : ℤ) → IsSound (type_or_fault at z)
 type_or_fault_sound at z =
     if_sound (int_eq z (pos (10 ^ 6))) (good_sound Solid)
     (if_sound (int_eq z (pos (3 * 10 ^ 6))) (good_sound Null)
-    (if_sound (unsigned_abs z % 10 ^ 6 == 0) (bad_sound Unsupported at) (bad_sound Value at)))
+    (if_sound (int_eq z (pos (4 * 10 ^ 6))) (good_sound Shape)
+    (if_sound (unsigned_abs z % 10 ^ 6 == 0) (bad_sound Unsupported at) (bad_sound Value at))))
 
 layer_type_sound : ReadsSoundly layer_type
 unfolding layer_type
@@ -100,20 +73,27 @@ solid_sound at m =
     (needed_sound (codes "sh") (number_sound not_below_zero) at m))
     (needed_sound (codes "sc") color_sound at m)
 
-type_rows_sound : (ty : LayerType) → RowsAreSound (type_rows ty)
-unfolding type_rows
-type_rows_sound Solid at m = solid_sound at m
-type_rows_sound Null at m = good_sound kind.Null
+shape_sound : (names : Names) → RowsAreSound (shape_rows names)
+unfolding shape_rows
+shape_sound names at m =
+    row_sound (good_sound (λ (items : List Item). kind.Shape items))
+    (needed_sound (codes "shapes") (list_sound max_list_items (item_sound names)) at m)
 
-kind_sound : (ty : LayerType) → RowsAreSound (kind_rows ty)
+type_rows_sound : (names : Names) (ty : LayerType) → RowsAreSound (type_rows names ty)
+unfolding type_rows
+type_rows_sound names Solid at m = solid_sound at m
+type_rows_sound names Null at m = good_sound kind.Null
+type_rows_sound names Shape at m = shape_sound names at m
+
+kind_sound : (names : Names) (ty : LayerType) → RowsAreSound (kind_rows names ty)
 unfolding kind_rows
-kind_sound ty at m =
-    row_sound (also_sound (good_sound (λ (shown : LayerKind). shown)) (unbuilt_sound (codes "masksProperties") at m)) (type_rows_sound ty at m)
+kind_sound names ty at m =
+    row_sound (also_sound (good_sound (λ (shown : LayerKind). shown)) (unbuilt_sound (codes "masksProperties") at m)) (type_rows_sound names ty at m)
 
 content_sound : (names : Names) (ty : LayerType) → RowsAreSound (content_rows names ty)
 unfolding content_rows
 content_sound names ty at m =
-    row_sound (row_sound (good_sound _) (needed_sound (codes "ks") (transform_sound names) at m)) (kind_sound ty at m)
+    row_sound (row_sound (good_sound _) (needed_sound (codes "ks") (transform_sound names) at m)) (kind_sound names ty at m)
 
 layer_rows_sound : (names : Names) (ty : LayerType) → RowsAreSound (layer_rows names ty)
 unfolding layer_rows

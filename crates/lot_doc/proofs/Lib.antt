@@ -1,4 +1,8 @@
+mod FaultlessFeatures
+mod FaultlessItems
 pub mod FaultlessTables
+mod Levels
 mod Only
+mod OnlyItems
 mod OnlyTransform
 mod WellFormed

@@ -28,7 +28,7 @@ use Rattle.lot_read.specs.Property.{no_expression, slot_found, slot_name, own, b
 use Rattle.lot_read.specs.Rows.{optional}
 use Rattle.lot_read.specs.SlotNames.{place_of}
 use Rattle.lot_read.specs.Track.{track}
-use Rattle.lot_read.specs.Transform.{constant, origin, all, full_size, vector_or, scalar_or, position_or_origin, placement_rows, scalar_rows, transform_rows, transform}
+use Rattle.lot_read.specs.Transform.{constant, origin, hundred_per_cent, full_size, vector_or, scalar_or, position_or_origin, placement_rows, scalar_rows, transform_rows, transform}
 use Rattle.lot_read.specs.Vector.{vector}
 use Rattle.lot_doc.proofs.Only.{GivesOnly, ReadsOnly, RowsGiveOnly, anything, good_only, bad_only, if_only, row_only, any_row_only, on_only, needed_only, optional_only, object_only}
 
@@ -57,7 +57,7 @@ by_name_only P kind value owns at m (Some Unknown) none = own_only P (track kind
 by_name_only P kind value owns at m (Some Unnamed) none = own_only P (track kind value Missing at m) owns
 by_name_only P kind value owns at m None none = own_only P (track kind value Missing at m) owns
 
-property_rows_only : {T : Type 0} (P : Prop T → Type 0) (kind : SlotKind) (value : Reader T) → ((t : Track T) → P (Own t))
+pub property_rows_only : {T : Type 0} (P : Prop T → Type 0) (kind : SlotKind) (value : Reader T) → ((t : Track T) → P (Own t))
     → RowsGiveOnly P (property_rows kind [] value)
 unfolding property_rows
 property_rows_only {T} P kind value owns at m =
@@ -66,19 +66,19 @@ property_rows_only {T} P kind value owns at m =
     (any_row_only (optional (codes "x") no_expression tt at m) (good_only (λ (_ : Unit {0}) (p : Prop T). p) (λ _ p h. h)))
 
 -- It has a value in any document.
-abbrev EverScalar : Prop ℤ → Type 0
+abbrev pub EverScalar : Prop ℤ → Type 0
 EverScalar p = (d : Doc) → HasScalar d p
 
-abbrev EverVector : Prop Point → Type 0
+abbrev pub EverVector : Prop Point → Type 0
 EverVector p = (d : Doc) → HasVector d p
 
 abbrev EverPosition : Position → Type 0
 EverPosition p = (d : Doc) → HasPosition d p
 
-own_scalar : (t : Track ℤ) → EverScalar (Own t)
+pub own_scalar : (t : Track ℤ) → EverScalar (Own t)
 own_scalar t d = refl
 
-own_vector : (t : Track Point) → EverVector (Own t)
+pub own_vector : (t : Track Point) → EverVector (Own t)
 own_vector t d = refl
 
 scalar_only : ReadsOnly EverScalar (property slot_kind.Scalar [] scalar)
@@ -112,7 +112,7 @@ vector_or_only : (default : Point) (name : List ℕ) → RowsGiveOnly EverVector
 unfolding vector_or
 vector_or_only default name at m = optional_only name (constant default) (λ d. refl) vector_only at m
 
-scalar_or_only : (default : ℤ) (name : List ℕ) → RowsGiveOnly EverScalar (scalar_or default [] name)
+pub scalar_or_only : (default : ℤ) (name : List ℕ) → RowsGiveOnly EverScalar (scalar_or default [] name)
 unfolding scalar_or
 scalar_or_only default name at m = optional_only name (constant default) (λ d. refl) scalar_only at m
 
@@ -136,7 +136,7 @@ unfolding scalar_rows
 scalar_rows_only at m =
     row_only (scalar_or_only (pos 0) (codes "sa") at m)
     (row_only (scalar_or_only (pos 0) (codes "sk") at m)
-    (row_only (scalar_or_only all (codes "o") at m)
+    (row_only (scalar_or_only hundred_per_cent (codes "o") at m)
     (row_only (scalar_or_only (pos 0) (codes "r") at m)
     (good_only _ (λ r ever_r o ever_o sk ever_sk sa ever_sa. (ever_r, ever_o, ever_sk, ever_sa))))))
 
@@ -144,7 +144,7 @@ scalar_rows_only at m =
 abbrev pub EverValues : Transform → Type 0
 EverValues ks = (d : Doc) → HasValues d ks
 
-transform_rows_only : RowsGiveOnly EverValues (transform_rows [])
+pub transform_rows_only : RowsGiveOnly EverValues (transform_rows [])
 unfolding transform_rows
 transform_rows_only at m =
     row_only (scalar_rows_only at m)

@@ -4,6 +4,7 @@ use Rattle.std.specs.Int.Signed.{lt_z_yes}
 use Rattle.std.specs.Option.{IfSome}
 use Rattle.std.proofs.lemmas.List.Elements.{All-nil, All-cons}
 use Rattle.lot_types.specs.declared.doc.Doc.{Doc}
+use Rattle.lot_types.specs.declared.item.Item.{Item}
 use Rattle.lot_types.specs.declared.layer.Layer.{Layer}
 use Rattle.lot_types.specs.declared.layer.LayerKind.{LayerKind}
 use Rattle.lot_types.specs.declared.layer.LayerKind.TheVariants as kind
@@ -11,60 +12,72 @@ use Rattle.lot_types.specs.declared.rgb.Rgb.{Rgb}
 use Rattle.lot_types.specs.declared.read.Read.{Read}
 use Rattle.lot_types.specs.declared.slot.Use.{Use}
 use Rattle.lot_types.specs.declared.transform.Transform.{Transform}
-use Rattle.lot_types.specs.WellFormed.{max_layers, HasFewLayers, LayersHaveValues, IsBuiltKind, IsBuilt, LayersAreBuilt, IsWellFormed}
+use Rattle.lot_types.specs.WellFormed.{max_layers, HasFewLayers, HasKindValues, HasLayerValues, LayersHaveValues, IsBuiltKind, IsBuilt, LayersAreBuilt, IsWellFormed}
 use Rattle.lot_json.specs.declared.tree.json.Json.{Json}
-use Rattle.lot_read.specs.Lists.{list}
+use Rattle.lot_read.specs.Lists.{max_list_items, list}
 use Rattle.lot_read.specs.Number.{not_below_zero, above_zero, number}
 use Rattle.lot_read.specs.Rows.{needed, optional, unbuilt, object}
 use Rattle.lot_doc.specs.declared.layer_type.LayerType.{LayerType}
-use Rattle.lot_doc.specs.declared.layer_type.LayerType.TheVariants.{Solid, Null}
+use Rattle.lot_doc.specs.declared.layer_type.LayerType.TheVariants.{Solid, Null, Shape}
 use Rattle.lot_doc.specs.Color.{hex_color}
 use Rattle.lot_doc.specs.declared.layer.Header.{Header}
 use Rattle.lot_doc.specs.declared.layer.Content.{Content}
 use Rattle.lot_doc.specs.declared.running_time.RunningTime.{RunningTime}
 use Rattle.lot_doc.specs.Feature.{asset_rows}
-use Rattle.lot_doc.specs.Layer.{layer_type, header_rows, solid_rows, type_rows, kind_rows, content_rows, layer_of, layer_rows, typed_layer_rows}
+use Rattle.lot_doc.specs.Layer.{layer_type, header_rows, solid_rows, shape_rows, type_rows, kind_rows, content_rows, layer_of, layer_rows, typed_layer_rows}
 use Rattle.lot_doc.specs.Root.{max_assets, running_time_rows, main_comp, doc_of, root_rows, document}
 use Rattle.lot_doc.proofs.Only.{GivesOnly, RowsGiveOnly, AreFew, good_only, row_only, any_row_only, also_only, then_only, needed_only, object_only, number_only, list_only}
+use Rattle.lot_doc.proofs.OnlyItems.{item_only, are_items}
 use Rattle.lot_doc.proofs.OnlyTransform.{EverValues, transform_only}
 
--- What a layer shows is a rectangle or nothing.
-solid_rows_only : RowsGiveOnly IsBuiltKind solid_rows
+-- What a layer shows can be evaluated, in any document.
+abbrev KindIsGood : LayerKind → Type 0
+KindIsGood shown = IsBuiltKind shown × ((d : Doc) → HasKindValues d shown)
+
+solid_rows_only : RowsGiveOnly KindIsGood solid_rows
 unfolding solid_rows
 solid_rows_only at m =
     any_row_only (needed (codes "sc") hex_color at m)
     (any_row_only (needed (codes "sh") (number not_below_zero) at m)
     (any_row_only (needed (codes "sw") (number not_below_zero) at m)
-    (good_only (λ (w h : ℤ) (rgb : Rgb). kind.Solid w h rgb) (λ w h rgb. tt))))
+    (good_only (λ (w h : ℤ) (rgb : Rgb). kind.Solid w h rgb) (λ w h rgb. (tt, λ d. tt)))))
 
-type_rows_only : (ty : LayerType) → RowsGiveOnly IsBuiltKind (type_rows ty)
+shape_rows_only : RowsGiveOnly KindIsGood (shape_rows [])
+unfolding shape_rows
+shape_rows_only at m =
+    row_only (needed_only (codes "shapes") (list_only max_list_items item_only) at m)
+    (good_only (λ (items : List Item). kind.Shape items) (λ items good. (tt, are_items items good)))
+
+type_rows_only : (ty : LayerType) → RowsGiveOnly KindIsGood (type_rows [] ty)
 unfolding type_rows
 type_rows_only Solid at m = solid_rows_only at m
-type_rows_only Null at m = good_only kind.Null tt
+type_rows_only Null at m = good_only kind.Null (tt, λ d. tt)
+type_rows_only Shape at m = shape_rows_only at m
 
-kind_rows_only : (ty : LayerType) → RowsGiveOnly IsBuiltKind (kind_rows ty)
+kind_rows_only : (ty : LayerType) → RowsGiveOnly KindIsGood (kind_rows [] ty)
 unfolding kind_rows
 kind_rows_only ty at m =
     row_only (type_rows_only ty at m)
     (also_only (unbuilt (codes "masksProperties") at m)
-    (good_only (λ (shown : LayerKind). shown) (λ shown built. built)))
+    (good_only (λ (shown : LayerKind). shown) (λ shown good. good)))
 
 -- Layers: the transform of each has values in any document, and each can be evaluated.
 abbrev ContentIsGood : Content → Type 0
-ContentIsGood content = EverValues content.ks × IsBuiltKind content.kind
+ContentIsGood content = EverValues content.ks × KindIsGood content.kind
 
 content_rows_only : (ty : LayerType) → RowsGiveOnly ContentIsGood (content_rows [] ty)
 unfolding content_rows
 content_rows_only ty at m =
     row_only (kind_rows_only ty at m)
     (row_only (needed_only (codes "ks") transform_only at m)
-    (good_only (λ (ks : Transform) (shown : LayerKind). record { ks = ks; kind = shown }) (λ ks ever shown built. (ever, built))))
+    (good_only (λ (ks : Transform) (shown : LayerKind). record { ks = ks; kind = shown }) (λ ks ever shown good. (ever, good))))
 
 abbrev LayerIsGood : Layer → Type 0
-LayerIsGood layer = EverValues layer.ks × IsBuilt layer
+LayerIsGood layer = ((d : Doc) → HasLayerValues d layer) × IsBuilt layer
 
 good_layer : (header : Header) (content : Content) → ContentIsGood content → LayerIsGood (layer_of header content)
-good_layer header content good = (good.0, record { kind = good.1; matte = refl; masks = refl })
+good_layer header content good =
+    (λ d. record { transform = good.0 d; kind = good.1.1 d }, record { kind = good.1.0; matte = refl; masks = refl })
 
 layer_rows_only : (ty : LayerType) → RowsGiveOnly LayerIsGood (layer_rows [] ty)
 unfolding layer_rows

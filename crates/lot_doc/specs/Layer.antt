@@ -10,22 +10,25 @@ use Rattle.lot_types.specs.declared.matte.Matte.TheVariants as matte
 use Rattle.lot_json.specs.declared.tree.pointer.Step.{Step}
 use Rattle.lot_read.specs.Findings.{Findings, Reader, Row, good, bad, ◌⊛◌, ◌also◌, ◌then◌}
 use Rattle.lot_read.specs.Flag.{flag}
+use Rattle.lot_read.specs.Lists.{max_list_items, list}
 use Rattle.lot_read.specs.Number.{any, not_below_zero, number}
 use Rattle.lot_read.specs.Rows.{needed, optional, maybe, unbuilt}
 use Rattle.lot_read.specs.SlotNames.{Names}
 use Rattle.lot_read.specs.Transform.{transform}
 use Rattle.lot_doc.specs.declared.layer_type.LayerType.{LayerType}
-use Rattle.lot_doc.specs.declared.layer_type.LayerType.TheVariants.{Solid, Null}
+use Rattle.lot_doc.specs.declared.layer_type.LayerType.TheVariants.{Solid, Null, Shape}
 use Rattle.lot_doc.specs.declared.layer.Header.{Header}
 use Rattle.lot_doc.specs.declared.layer.Content.{Content}
 use Rattle.lot_doc.specs.Color.{hex_color}
 use Rattle.lot_doc.specs.Feature.{left_out}
+use Rattle.lot_doc.specs.Item.{item}
 
--- The type of a number of millionths: 1 is a solid layer, and 3 a null layer.
+-- The type of a number of millionths: 1 is a solid layer, 3 a null layer, and 4 a shape layer.
 abbrev pub type_or_fault : List Step → ℤ → Findings LayerType
 type_or_fault at z =
     if int_eq z (pos (10 ^ 6)) then good Solid
     else if int_eq z (pos (3 * 10 ^ 6)) then good Null
+    else if int_eq z (pos (4 * 10 ^ 6)) then good Shape
     else if unsigned_abs z % 10 ^ 6 == 0 then bad code.Unsupported at
     else bad code.Value at
 
@@ -55,21 +58,27 @@ solid_rows at m =
     ⊛ needed (codes "sh") (number not_below_zero) at m
     ⊛ needed (codes "sc") hex_color at m
 
+-- The items of a shape layer.
+unfoldable pub shape_rows : Names → Row LayerKind
+shape_rows names at m =
+    good (λ items. kind.Shape items) ⊛ needed (codes "shapes") (list max_list_items (item names)) at m
+
 -- The rows of each type. A null layer has none.
-unfoldable pub type_rows : LayerType → Row LayerKind
-type_rows Solid at m = solid_rows at m
-type_rows Null at m = good kind.Null
+unfoldable pub type_rows : Names → LayerType → Row LayerKind
+type_rows names Solid at m = solid_rows at m
+type_rows names Null at m = good kind.Null
+type_rows names Shape at m = shape_rows names at m
 
 -- The rows of a layer after its transform.
-unfoldable pub kind_rows : LayerType → Row LayerKind
-kind_rows ty at m = good (λ shown. shown) also unbuilt (codes "masksProperties") at m ⊛ type_rows ty at m
+unfoldable pub kind_rows : Names → LayerType → Row LayerKind
+kind_rows names ty at m = good (λ shown. shown) also unbuilt (codes "masksProperties") at m ⊛ type_rows names ty at m
 
 -- The transform of a layer, and what it shows.
 unfoldable pub content_rows : Names → LayerType → Row Content
 content_rows names ty at m =
     good (λ ks shown. record { ks = ks; kind = shown })
     ⊛ needed (codes "ks") (transform names) at m
-    ⊛ kind_rows ty at m
+    ⊛ kind_rows names ty at m
 
 -- A layer without mattes and masks.
 abbrev pub layer_of : Header → Content → Layer

@@ -1,5 +1,9 @@
 pub mod Color
 pub mod Feature
+pub mod Item
+pub mod ItemHead
 pub mod Layer
 pub mod Root
+pub mod Shape
+pub mod Style
 pub mod Build

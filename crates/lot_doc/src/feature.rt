@@ -9,7 +9,7 @@ use lot_types::{FaultCode, Refusal, Seq, Use};
 /// Reads the blend mode 0. Any other number is [`FaultCode::Unsupported`], one beyond the range of [`lot_types::Fx`] is
 /// [`FaultCode::Range`], and any other value is [`FaultCode::Kind`].
 #[derive(Clone, Copy)]
-struct NormalBlend;
+pub(crate) struct NormalBlend;
 
 impl Reader for NormalBlend {
     type Value = ();

@@ -2,12 +2,16 @@
 ghost use Rattle.std.specs.Prelude.{◌≡◌, IfOk, IfErr, Ok, Err};
 ghost use Rattle.lot_read.specs.Members.{RowGives, SameMembers};
 ghost use Rattle.lot_read.specs.SlotNames.{names_in};
-ghost use Rattle.lot_doc.specs.Layer.{header_rows, solid_rows, type_rows, kind_rows, content_rows, layer_rows, typed_layer_rows};
+ghost use Rattle.lot_doc.specs.Layer.{header_rows, solid_rows, shape_rows, type_rows, kind_rows, content_rows, layer_rows, typed_layer_rows};
 
 use crate::color::ColorText;
 use crate::feature::refuse_left_out;
+use crate::item::ItemOf;
 use crate::layer_type::{LayerType, LayerTypeValue};
-use lot_read::{Flag, Members, Moment, NumberValue, Object, Rows, SlotNames, TransformOf};
+use lot_read::{
+    Flag, ListOf, MAX_LIST_ITEMS, Members, Moment, NumberValue, Object, Rows, SlotNames,
+    TransformOf,
+};
 use lot_types::{Fx, Layer, LayerKind, Matte, Refusal, Seq, Time, Transform};
 
 /// Reads the members of a layer by its type. After a fault of the type nothing more of the layer is read.
@@ -104,7 +108,7 @@ fn read_content(names: &SlotNames, ty: LayerType, members: &mut Members) -> Resu
         rows: TransformOf { names },
     };
     let ks = members.needed("ks", &transform)?;
-    let kind = read_kind(ty, members);
+    let kind = read_kind(names, ty, members);
     let (ks, kind) = both(ks, kind)?;
     Ok(Content { ks, kind })
 }
@@ -122,24 +126,39 @@ fn both<A: Drop, B: Drop>(first: A, second: Result<B, Refusal>) -> Result<(A, B)
 
 /// Reads what a layer of this type shows. Masks are not built yet.
 #[tactic(auto, using(lot_read::proofs::Faults::first_of_prefix), unfolding(crate::specs::Layer::kind_rows))]
-fn read_kind(ty: LayerType, members: &mut Members) -> Result<LayerKind, Refusal>
-    ensures gives { RowGives result members.old members.new (kind_rows ty) }
+fn read_kind(names: &SlotNames, ty: LayerType, members: &mut Members) -> Result<LayerKind, Refusal>
+    ensures gives { RowGives result members.old members.new (kind_rows (names_in names.now) ty) }
     ensures same { SameMembers members.old members.new }
 {
     members.unbuilt("masksProperties")?;
-    read_type(ty, members)
+    read_type(names, ty, members)
 }
 
 /// Reads the members that layers of this type alone have.
 #[tactic(auto, unfolding(crate::specs::Layer::type_rows))]
-fn read_type(ty: LayerType, members: &mut Members) -> Result<LayerKind, Refusal>
-    ensures gives { RowGives result members.old members.new (type_rows ty) }
+fn read_type(names: &SlotNames, ty: LayerType, members: &mut Members) -> Result<LayerKind, Refusal>
+    ensures gives { RowGives result members.old members.new (type_rows (names_in names.now) ty) }
     ensures same { SameMembers members.old members.new }
 {
     match ty {
         LayerType::Solid => read_solid(members),
         LayerType::Null => Ok(LayerKind::Null),
+        LayerType::Shape => read_shape(names, members),
     }
+}
+
+/// Reads the items of a shape layer.
+#[tactic(auto, using(lot_read::proofs::Faults::first_of_prefix), unfolding(crate::specs::Layer::shape_rows))]
+fn read_shape(names: &SlotNames, members: &mut Members) -> Result<LayerKind, Refusal>
+    ensures gives { RowGives result members.old members.new (shape_rows (names_in names.now)) }
+    ensures same { SameMembers members.old members.new }
+{
+    let items = ListOf {
+        max: MAX_LIST_ITEMS,
+        item: ItemOf { names },
+    };
+    let items = members.needed("shapes", &items)?;
+    Ok(LayerKind::Shape(items))
 }
 
 /// Reads the size and the color of a solid layer.

@@ -12,12 +12,16 @@ pub enum LayerType {
     Solid,
     /// A layer that shows nothing. Its number is 3.
     Null,
+    /// A layer of shapes. Its number is 4.
+    Shape,
 }
 
 /// The numbers of the types, in millionths.
 const SOLID: i64 = 1_000_000;
 
 const NULL: i64 = 3_000_000;
+
+const SHAPE: i64 = 4_000_000;
 
 /// The number of millionths that is 1.
 const MILLION: u64 = 1_000_000;
@@ -41,6 +45,9 @@ impl Reader for LayerTypeValue {
         }
         if z == NULL {
             return Ok(LayerType::Null);
+        }
+        if z == SHAPE {
+            return Ok(LayerType::Shape);
         }
         if z.unsigned_abs() % MILLION == 0 {
             return Err(refusal_at(FaultCode::Unsupported, at));

@@ -14,6 +14,6 @@ mod path;
 pub use arc_length::along;
 pub use cubic::{Cubic, point_at, split};
 pub use matrix::{apply, identity, of_transform_values, then};
-pub use number::limited;
+pub use number::{limited, negated};
 pub use offset::moved;
 pub use path::path_contours;

@@ -16,8 +16,8 @@ pub fn limited(x: i128) -> Fx
     }
 }
 
-/// Minus a number.
-pub(crate) fn negated(x: Fx) -> Fx
+/// Minus a number, which is in the range as the number is.
+pub fn negated(x: Fx) -> Fx
     ensures { result ≡ neg_ℤ x }
 {
     match Fx::new(-x.get()) {

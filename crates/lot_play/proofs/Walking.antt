@@ -1,6 +1,6 @@
 -- One layer more is written.
-use Rattle.std.proofs.Common.{◌≡◌, ℕ, ℤ, List, suc, true, false, Bool, Option, None, Some, option_map, refl, sym, subst, ap, ◌∙◌, if◌then◌else◌}
-use Rattle.lot_comp.specs.Frame.{evaluated, node_with, piece_at, visit_of, node_of, with_layer, is_drawn, nodes}
+use Rattle.std.proofs.Common.{◌≡◌, ℕ, ℤ, List, ◌∷◌, true, false, Bool, Option, None, Some, option_map, refl, sym, ap, ◌∙◌, if◌then◌else◌}
+use Rattle.lot_comp.specs.Frame.{evaluated, node_with, piece_at, node_of, with_layer, is_visible, nodes}
 use Rattle.lot_comp.specs.Full.{layer_at}
 use Rattle.lot_comp.specs.Piece.{piece_of}
 use Rattle.lot_play.specs.Walk.{after_frame, after_piece}
@@ -34,22 +34,22 @@ passed : (b : Bool) (x y : Frame Visit) → b ≡ false → (if b then x else y)
 passed true x y e = absurd cc
 passed false x y e = refl
 
--- The layer after the first l is drawn.
+-- A layer that is visible is written before the layers ls.
 pub drawn : (d : Doc) (c l : ℕ) (t : ℤ) (layer : Layer) (p : Piece) (s now : Written) → layer_at d c l ≡ Some layer
-    → is_drawn t layer ≡ true → piece_of d c l t ≡ Some p → now ≡ after_piece p s
-    → after_frame d (nodes d c t l) now ≡ after_frame d (nodes d c t (suc l)) s
-drawn d c l t layer p s now there is piece e =
-    let rest = nodes d c t l in
+    → is_visible t layer ≡ true → piece_of d c l t ≡ Some p → now ≡ after_piece p s
+    → (ls : List ℕ) → after_frame d (nodes d c t ls) now ≡ after_frame d (nodes d c t (l ∷ ls)) s
+drawn d c l t layer p s now there is piece e ls =
+    let rest = nodes d c t ls in
     ap (λ (z : Written). after_frame d rest z) e
     ∙ sym (one_written d c l t p rest s piece)
-    ∙ ap (λ (f : Frame Visit). after_frame d f s) (sym (ap (λ (o : Option Layer). with_layer c l t o rest) there ∙ picked (is_drawn t layer) (node_of c l t rest) rest is))
+    ∙ ap (λ (f : Frame Visit). after_frame d f s) (sym (ap (λ (o : Option Layer). with_layer c l t o rest) there ∙ picked (is_visible t layer) (node_of c l t rest) rest is))
 
--- It is not drawn.
-pub not_drawn : (d : Doc) (c l : ℕ) (t : ℤ) (layer : Layer) (s : Written) → layer_at d c l ≡ Some layer → is_drawn t layer ≡ false
-    → after_frame d (nodes d c t l) s ≡ after_frame d (nodes d c t (suc l)) s
-not_drawn d c l t layer s there is =
-    let rest = nodes d c t l in
-    ap (λ (f : Frame Visit). after_frame d f s) (sym (ap (λ (o : Option Layer). with_layer c l t o rest) there ∙ passed (is_drawn t layer) (node_of c l t rest) rest is))
+-- One that is not visible is not written.
+pub not_drawn : (d : Doc) (c l : ℕ) (t : ℤ) (layer : Layer) (s : Written) → layer_at d c l ≡ Some layer → is_visible t layer ≡ false
+    → (ls : List ℕ) → after_frame d (nodes d c t ls) s ≡ after_frame d (nodes d c t (l ∷ ls)) s
+not_drawn d c l t layer s there is ls =
+    let rest = nodes d c t ls in
+    ap (λ (f : Frame Visit). after_frame d f s) (sym (ap (λ (o : Option Layer). with_layer c l t o rest) there ∙ passed (is_visible t layer) (node_of c l t rest) rest is))
 
 -- The text of the frame, from what is written after its layers.
 pub gives_text : (d : Doc) (o : Option (Frame Piece)) (s : Written)

@@ -1,9 +1,9 @@
 //! The frame of a document, as SVG.
-ghost use Rattle.std.specs.Prelude.{◌≡◌, ◌+◌, ◌≤◌, ◌<◌, suc, Some, length, fold, OnOk, IfOk};
+ghost use Rattle.std.specs.Prelude.{◌≡◌, ℕ, ◌+◌, ◌≤◌, ◌<◌, Some, List, ◌∷◌, length, fold, OnOk, IfOk};
 ghost use Rattle.std.specs.List.{All};
-ghost use Rattle.lot_comp.specs.Frame.{frame, nodes, is_drawn as drawn_at, is_visible as visible_at, draws as draws_in};
+ghost use Rattle.lot_comp.specs.Frame.{frame, nodes, is_visible as visible_at};
 ghost use Rattle.lot_comp.specs.Full.{layer_at};
-ghost use Rattle.lot_comp.specs.Piece.{IsPlain, IsPlainPaint};
+ghost use Rattle.lot_comp.specs.Piece.{IsPlain, IsFlatPaint};
 ghost use Rattle.lot_play.specs.Picture.{svg_of};
 ghost use Rattle.lot_play.specs.Walk.{after_frame, after_piece};
 ghost use Rattle.lot_refs.specs.Linked.{layers_of};
@@ -13,7 +13,7 @@ ghost use Rattle.lot_types.specs.WellFormed.{max_layers};
 use lot_comp::piece;
 use lot_refs::Linked;
 use lot_svg::Writer;
-use lot_types::{Bytes, Layer, LayerKind, Memory, Paint, Piece, Steps, Time};
+use lot_types::{Bytes, Layer, Memory, Paint, Piece, Steps, Time};
 use std::alloc::Global;
 use std::sync::ledger::Ledger;
 
@@ -50,15 +50,16 @@ fn write_layers<L: Ledger>(
     ensures written { OnOk result (after_frame d.now (frame d.now c t) w.old ≡ Some w.new) }
     ensures counted { steps.new ≤ steps.old + max_layers }
 {
-    let mut l = layer_count(d, c);
-    while l > 0 {
-        l -= 1;
-        write_layer(alloc, d, c, l, t, w, steps)?;
+    let drawn = d.drawn_layers(c);
+    let mut i = drawn.len();
+    while i > 0 {
+        i -= 1;
+        write_layer(alloc, d, c, drawn[i], t, w, steps)?;
     }
     Ok(())
 }
 
-/// Writes layer `l` of composition `c`, where it is drawn.
+/// Writes layer `l` of composition `c`, where it is visible.
 fn write_layer<L: Ledger>(
     alloc: Global,
     d: &Linked,
@@ -70,24 +71,15 @@ fn write_layer<L: Ledger>(
 ) -> Result<(), Memory>
     requires comp { c < length d.now.comps }
     requires layer { l < length (layers_of d.now c) }
-    ensures written { OnOk result (after_frame d.now (nodes d.now c t l) w.new
-        ≡ after_frame d.now (nodes d.now c t (suc l)) w.old) }
+    ensures written { OnOk result ((ls : List ℕ) → after_frame d.now (nodes d.now c t ls) w.new
+        ≡ after_frame d.now (nodes d.now c t (l ∷ ls)) w.old) }
     ensures counted { steps.new ≤ steps.old + 1 }
 {
-    if !is_drawn(layer_of(d, c, l), t) {
+    if !is_visible(layer_of(d, c, l), t) {
         return Ok(());
     }
     let p = piece(alloc, d, c, l, t, steps)?;
     write_piece(w, &p)
-}
-
-/// The number of layers of composition `c`.
-fn layer_count(d: &Linked, c: u32) -> u32
-    requires { c < length d.now.comps }
-    ensures value { result ≡ length (layers_of d.now c) }
-    ensures few { result ≤ max_layers }
-{
-    d.doc().comps.items()[c as usize].layers.items().len() as u32
 }
 
 /// Layer `l` of composition `c`.
@@ -99,29 +91,11 @@ fn layer_of<'a>(d: &'a Linked, c: u32, l: u32) -> &'a Layer
     &d.doc().comps.items()[c as usize].layers.items()[l as usize]
 }
 
-/// Whether a layer is drawn by itself at a time.
-fn is_drawn(layer: &Layer, t: Time) -> bool
-    ensures { result ≡ drawn_at t layer.now }
-{
-    is_visible(layer, t) && draws(&layer.kind) && !layer.td
-}
-
+/// Whether a layer is visible at a time.
 fn is_visible(layer: &Layer, t: Time) -> bool
     ensures { result ≡ visible_at t layer.now }
 {
     !layer.hidden && layer.ip.get() <= t.get() && t.get() < layer.op.get()
-}
-
-/// Whether layers of a kind draw anything.
-fn draws(kind: &LayerKind) -> bool
-    ensures { result ≡ draws_in kind.now }
-{
-    match kind {
-        LayerKind::Precomp { .. } => true,
-        LayerKind::Solid { .. } => true,
-        LayerKind::Null => false,
-        LayerKind::Shape(_) => true,
-    }
 }
 
 /// Writes a layer without a matte: its group, with its paints in it.
@@ -136,7 +110,7 @@ fn write_piece(w: &mut Writer, p: &Piece) -> Result<(), Memory>
 
 /// Writes paints in order.
 fn write_paints(w: &mut Writer, paints: &[Paint]) -> Result<(), Memory>
-    requires { All IsPlainPaint paints.now }
+    requires { All IsFlatPaint paints.now }
     ensures { OnOk result (w.new ≡ fold paint w.old paints.now) }
 {
     for p in paints {

@@ -8,6 +8,7 @@ use Rattle.lot_types.specs.declared.prop.Prop.{Prop}
 use Rattle.lot_types.specs.declared.doc.Doc.{Doc}
 use Rattle.lot_types.specs.Curve.{Curve}
 use Rattle.lot_types.specs.Ramp.{Ramp}
+use Rattle.lot_types.specs.PropertyValues.{PropertyValues}
 use Rattle.lot_types.specs.Slots.{scalar_in, vector_in, color_in, bezier_in, gradient_in, track_of}
 use Rattle.lot_prop.specs.Value.{Between, scalar_between, vector_between, color_between, bezier_between, gradient_between, track_value}
 
@@ -29,3 +30,7 @@ bezier_value d p t = value_in bezier_between t (track_of bezier_in d p)
 
 unfoldable pub gradient_value : Doc → Prop Ramp → ℤ → Option Ramp
 gradient_value d p t = value_in gradient_between t (track_of gradient_in d p)
+
+-- The values of scalars, vectors and paths, as this crate evaluates them.
+abbrev pub evaluated : PropertyValues
+evaluated = record { scalar = scalar_value; vector = vector_value; bezier = bezier_value }

@@ -7,6 +7,7 @@ ghost use Rattle.lot_prop.specs.Value.{bezier_between, points_between as points_
 use crate::found::Found;
 use crate::part::Part;
 use lot_types::{Bezier, Doc, Duplicate, Memory, Point, Prop, Seq, SlotValue, Time, Track};
+use std::alloc::Global;
 
 /// The value of a path property of a document at a time, in millionths, limited to the range. Want of memory is the one
 /// refusal.
@@ -14,20 +15,20 @@ use lot_types::{Bezier, Doc, Duplicate, Memory, Point, Prop, Seq, SlotValue, Tim
 /// A slot that the property names has to be there and to be a path. Two paths of different numbers of vertices are not
 /// joined: the first is held.
 #[tactic(auto, unfolding(crate::specs::Slots::bezier_value))]
-pub fn value_bezier(d: &Doc, p: &Prop<Bezier>, t: Time) -> Result<Bezier, Memory>
+pub fn value_bezier(alloc: Global, d: &Doc, p: &Prop<Bezier>, t: Time) -> Result<Bezier, Memory>
     requires { IsSome (track_of bezier_in d.now p.now) }
     ensures { IfOk result (λ x. bezier_value d.now p.now t ≡ Some x) }
 {
     match p {
-        Prop::Own(track) => bezier_at(track, t),
+        Prop::Own(track) => bezier_at(alloc, track, t),
         Prop::Slot(slot) => match &d.slots.items()[*slot as usize].value {
-            SlotValue::Bezier(track) => bezier_at(track, t),
+            SlotValue::Bezier(track) => bezier_at(alloc, track, t),
             _ => unreachable!(),
         },
     }
 }
 
-fn bezier_at(track: &Track<Bezier>, t: Time) -> Result<Bezier, Memory>
+fn bezier_at(alloc: Global, track: &Track<Bezier>, t: Time) -> Result<Bezier, Memory>
     ensures { IfOk result (λ x. track_value bezier_between t track.now ≡ Some x) }
 {
     match track {
@@ -38,7 +39,7 @@ fn bezier_at(track: &Track<Bezier>, t: Time) -> Result<Bezier, Memory>
                 Found::Held(k) => items[k].value.copy(),
                 Found::Between(k) => {
                     let (key, next) = (&items[k], &items[k + 1]);
-                    between(&Part::at(key, next, t), &key.value, &next.value)
+                    between(alloc, &Part::at(key, next, t), &key.value, &next.value)
                 }
             }
         }
@@ -46,15 +47,15 @@ fn bezier_at(track: &Track<Bezier>, t: Time) -> Result<Bezier, Memory>
 }
 
 /// The path between two, or the first where their numbers of vertices differ.
-fn between(part: &Part, a: &Bezier, b: &Bezier) -> Result<Bezier, Memory>
+fn between(alloc: Global, part: &Part, a: &Bezier, b: &Bezier) -> Result<Bezier, Memory>
     ensures { IfOk result (λ x. x ≡ bezier_between part.now a.now b.now) }
 {
     if a.v.items().len() != b.v.items().len() {
         return a.copy();
     }
-    let v = points_between(part, &a.v, &b.v)?;
-    let i = points_between(part, &a.i, &b.i)?;
-    let o = points_between(part, &a.o, &b.o)?;
+    let v = points_between(alloc, part, &a.v, &b.v)?;
+    let i = points_between(alloc, part, &a.i, &b.i)?;
+    let o = points_between(alloc, part, &a.o, &b.o)?;
     Ok(Bezier {
         closed: a.closed,
         v,
@@ -63,12 +64,17 @@ fn between(part: &Part, a: &Bezier, b: &Bezier) -> Result<Bezier, Memory>
     })
 }
 
-fn points_between(part: &Part, ps: &Seq<Point>, qs: &Seq<Point>) -> Result<Seq<Point>, Memory>
+fn points_between(
+    alloc: Global,
+    part: &Part,
+    ps: &Seq<Point>,
+    qs: &Seq<Point>,
+) -> Result<Seq<Point>, Memory>
     requires { length qs.now ≡ length ps.now }
     ensures value { IfOk result (λ made. made ≡ points_in part.now ps.now qs.now) }
     ensures length { IfOk result (λ made. length made ≡ length ps.now) }
 {
-    let mut made = Seq::with_capacity(ps.allocator(), ps.items().len())?;
+    let mut made = Seq::with_capacity(alloc, ps.items().len())?;
     for (i, p) in ps.items().iter().enumerate() {
         let q = &qs.items()[i];
         made.push(Point {

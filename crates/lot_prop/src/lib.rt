@@ -6,6 +6,7 @@
 
 mod bezier;
 mod color;
+mod evaluator;
 mod found;
 mod gradient;
 mod part;
@@ -16,6 +17,7 @@ mod vector;
 
 pub use bezier::value_bezier;
 pub use color::value_color;
+pub use evaluator::Evaluator;
 pub use gradient::value_gradient;
 pub use position::value_position;
 pub use scalar::value_scalar;

@@ -3,16 +3,14 @@ use Rattle.std.proofs.Common.{ℕ, ℤ, pos, Bool, false, Option, List}
 use Rattle.std.specs.Prelude.{codes}
 use Rattle.lot_types.specs.declared.slot.SlotKind.TheVariants as slot_kind
 use Rattle.lot_types.specs.declared.prop.Prop.{Prop}
-use Rattle.lot_types.specs.declared.prop.Position.{Position}
 use Rattle.lot_types.specs.declared.prop.Position.TheVariants.{Whole, Split}
 use Rattle.lot_types.specs.declared.point.Point.{Point}
-use Rattle.lot_types.specs.declared.transform.Transform.{Transform}
 use Rattle.lot_json.specs.declared.tree.pointer.Step.{Step}
 use Rattle.lot_read.specs.Findings.{Pairs}
 use Rattle.lot_read.specs.Position.{position, position_rows, coordinate_rows, whole_rows, by_split, splits}
 use Rattle.lot_read.specs.SlotNames.{Names}
 use Rattle.lot_read.specs.Sound.{IsSound, ReadsSoundly, RowsAreSound}
-use Rattle.lot_read.specs.Transform.{constant, origin, all, full_size, vector_or, scalar_or, position_or_origin, placement_rows, scalar_rows, transform_rows, transform}
+use Rattle.lot_read.specs.Transform.{constant, origin, hundred_per_cent, full_size, vector_or, scalar_or, position_or_origin, placement_rows, scalar_rows, transform_rows, transform}
 use Rattle.lot_read.proofs.Sound.{good_sound, if_sound, row_sound, on_sound, needed_sound, optional_sound, object_sound}
 use Rattle.lot_read.proofs.SoundValues.{flag_sound, scalar_sound, vector_sound, property_sound, property_rows_sound}
 
@@ -42,7 +40,7 @@ vector_or_sound : (default : Point) (names : Names) (name : List ℕ) → RowsAr
 unfolding vector_or
 vector_or_sound default names name at m = optional_sound name (constant default) (property_sound slot_kind.Vector names vector_sound) at m
 
-scalar_or_sound : (default : ℤ) (names : Names) (name : List ℕ) → RowsAreSound (scalar_or default names name)
+pub scalar_or_sound : (default : ℤ) (names : Names) (name : List ℕ) → RowsAreSound (scalar_or default names name)
 unfolding scalar_or
 scalar_or_sound default names name at m = optional_sound name (constant default) (property_sound slot_kind.Scalar names scalar_sound) at m
 
@@ -63,7 +61,7 @@ unfolding scalar_rows
 scalar_rows_sound names at m =
     row_sound (row_sound (row_sound (row_sound (good_sound _)
     (scalar_or_sound (pos 0) names (codes "r") at m))
-    (scalar_or_sound all names (codes "o") at m))
+    (scalar_or_sound hundred_per_cent names (codes "o") at m))
     (scalar_or_sound (pos 0) names (codes "sk") at m))
     (scalar_or_sound (pos 0) names (codes "sa") at m)
 

@@ -12,6 +12,7 @@ pub mod Number
 pub mod Outcome
 pub mod Position
 pub mod Property
+pub mod PropertyRows
 pub mod Rows
 pub mod SlotNames
 pub mod Sound

@@ -1,6 +1,6 @@
 -- What a reader answers: the value where there is no fault, else the first fault. Want of memory may come in place of
 -- either.
-use Rattle.std.specs.Prelude.{◌≡◌, List, [], ◌∷◌, ◌++◌, Option, Some, None, Result, Ok, Err}
+use Rattle.std.specs.Prelude.{◌≡◌, List, [], ◌++◌, Some, Result, Ok, Err}
 use Rattle.lot_types.specs.declared.refusal.Refusal.{Refusal}
 use Rattle.lot_types.specs.declared.slot.Use.{Use}
 use Rattle.lot_types.specs.Refusals.{Fails}

@@ -26,11 +26,11 @@ abbrev pub origin : Point
 origin = record { x = pos 0; y = pos 0 }
 
 -- 100 per cent, in millionths.
-unfoldable pub all : ℤ
-all = pos (100 * 10 ^ 6)
+unfoldable pub hundred_per_cent : ℤ
+hundred_per_cent = pos (100 * 10 ^ 6)
 
 abbrev pub full_size : Point
-full_size = record { x = all; y = all }
+full_size = record { x = hundred_per_cent; y = hundred_per_cent }
 
 -- A property that has this value at all times where it is absent.
 unfoldable pub vector_or : Point → Names → List ℕ → Row (Prop Point)
@@ -55,7 +55,7 @@ unfoldable pub scalar_rows : Names → Row Scalars
 scalar_rows names at m =
     good (λ r o sk sa. record { r = r; o = o; sk = sk; sa = sa })
     ⊛ scalar_or (pos 0) names (codes "r") at m
-    ⊛ scalar_or all names (codes "o") at m
+    ⊛ scalar_or hundred_per_cent names (codes "o") at m
     ⊛ scalar_or (pos 0) names (codes "sk") at m
     ⊛ scalar_or (pos 0) names (codes "sa") at m
 

@@ -3,16 +3,14 @@ ghost use Rattle.std.specs.Prelude.{◌≡◌};
 ghost use Rattle.lot_read.specs.Members.{RowGives, SameMembers};
 ghost use Rattle.lot_read.specs.Outcome.{IsAnswer};
 ghost use Rattle.lot_read.specs.SlotNames.{names_in};
-ghost use Rattle.lot_read.specs.Transform.{transform, transform_rows, placement_rows, scalar_rows, vector_or as vector_or_in, scalar_or as scalar_or_in, position_or_origin as position_or_origin_in, all as all_in, full_size as full_size_in};
+ghost use Rattle.lot_read.specs.Transform.{transform, transform_rows, placement_rows, scalar_rows, position_or_origin as position_or_origin_in, hundred_per_cent as hundred_per_cent_in, full_size as full_size_in};
 
 use crate::members::{Members, Rows};
 use crate::object::Object;
 use crate::position::PositionOf;
-use crate::property::Property;
+use crate::property_rows::{scalar_or, vector_or};
 use crate::reader::Reader;
-use crate::scalar::ScalarValue;
 use crate::slot_names::SlotNames;
-use crate::vector::VectorValue;
 use lot_json::{Json, Pointer};
 use lot_types::{Fx, Point, Position, Prop, Refusal, Seq, Track, Transform};
 use std::alloc::Global;
@@ -88,52 +86,10 @@ fn read_scalars(names: &SlotNames, members: &mut Members) -> Result<Scalars, Ref
     ensures same { SameMembers members.old members.new }
 {
     let r = scalar_or(Fx::ZERO, names, "r", members)?;
-    let o = scalar_or(all(), names, "o", members)?;
+    let o = scalar_or(hundred_per_cent(), names, "o", members)?;
     let sk = scalar_or(Fx::ZERO, names, "sk", members)?;
     let sa = scalar_or(Fx::ZERO, names, "sa", members)?;
     Ok(Scalars { r, o, sk, sa })
-}
-
-/// Reads a property of vectors, which has this value at all times where it is absent.
-#[tactic(auto, unfolding(crate::specs::Transform::vector_or))]
-fn vector_or(
-    default: Point,
-    names: &SlotNames,
-    name: &str,
-    members: &mut Members,
-) -> Result<Prop<Point>, Refusal>
-    ensures gives { RowGives result members.old members.new
-        (vector_or_in default (names_in names.now) name.now) }
-    ensures same { SameMembers members.old members.new }
-{
-    let reader = Object {
-        rows: Property {
-            names,
-            value: VectorValue,
-        },
-    };
-    members.optional(name, &reader, Prop::Own(Track::Still(default)))
-}
-
-/// Reads a property of scalars, which has this value at all times where it is absent.
-#[tactic(auto, unfolding(crate::specs::Transform::scalar_or))]
-fn scalar_or(
-    default: Fx,
-    names: &SlotNames,
-    name: &str,
-    members: &mut Members,
-) -> Result<Prop<Fx>, Refusal>
-    ensures gives { RowGives result members.old members.new
-        (scalar_or_in default (names_in names.now) name.now) }
-    ensures same { SameMembers members.old members.new }
-{
-    let reader = Object {
-        rows: Property {
-            names,
-            value: ScalarValue,
-        },
-    };
-    members.optional(name, &reader, Prop::Own(Track::Still(default)))
 }
 
 /// Reads a position, which is the origin at all times where it is absent.
@@ -175,10 +131,10 @@ pub fn read_transform(
     reader.read(at, v, &mut uses)
 }
 
-/// 100 per cent.
-#[tactic(auto, unfolding(crate::specs::Transform::all))]
-fn all() -> Fx
-    ensures { result ≡ all_in }
+/// 100 per cent, in millionths.
+#[tactic(auto, unfolding(crate::specs::Transform::hundred_per_cent))]
+pub fn hundred_per_cent() -> Fx
+    ensures { result ≡ hundred_per_cent_in }
 {
     match Fx::new(100_000_000) {
         Some(x) => x,
@@ -190,5 +146,8 @@ fn all() -> Fx
 fn full_size() -> Point
     ensures { result ≡ full_size_in }
 {
-    Point { x: all(), y: all() }
+    Point {
+        x: hundred_per_cent(),
+        y: hundred_per_cent(),
+    }
 }

@@ -1,5 +1,5 @@
 //! The reader of whole numbers.
-ghost use Rattle.std.specs.Prelude.{◌≡◌};
+ghost use Rattle.std.specs.Prelude.{◌≡◌, ◌≤◌, IfSome};
 ghost use Rattle.lot_read.specs.Whole.{whole, whole_number as whole_number_in, allowed as allowed_in};
 
 use crate::number::NumberValue;
@@ -33,9 +33,33 @@ impl Reader for Whole {
     }
 }
 
+/// Reads a whole number from `low` to `high`, both included, that says which of a few choices is taken. The faults are
+/// those of [`Whole`].
+#[derive(Clone, Copy)]
+pub struct Choice {
+    pub low: u8,
+    pub high: u8,
+}
+
+impl Reader for Choice {
+    type Value = u8;
+
+    ghost gives = { λ c. whole c.low c.high };
+
+    #[tactic(auto, using(crate::proofs::Faults::first_of_prefix), unfolding(crate::specs::Whole::whole))]
+    fn read(&self, at: &mut Pointer, v: &Json, uses: &mut Seq<Use>) -> Result<u8, Refusal> {
+        let x = NumberValue::Any.read(at, v, uses)?;
+        match allowed(self.low as u32, self.high as u32, x) {
+            Some(n) => Ok(n as u8),
+            None => Err(refusal_at(FaultCode::Value, at)),
+        }
+    }
+}
+
 /// The number, where it is a whole one from `low` to `high`.
 fn allowed(low: u32, high: u32, x: Fx) -> Option<u32>
-    ensures { result ≡ allowed_in low high x }
+    ensures value { result ≡ allowed_in low high x }
+    ensures within { IfSome result (λ n. n ≤ high) }
 {
     let n = whole_number(x)?;
     if low as u64 <= n && n <= high as u64 {

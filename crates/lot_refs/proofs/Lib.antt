@@ -1,4 +1,5 @@
 pub mod Chains
+pub mod DrawnWithin
 pub mod Faultless
 pub mod FirstFaults
 pub mod Named

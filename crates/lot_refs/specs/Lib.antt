@@ -1,3 +1,4 @@
+pub mod Drawn
 pub mod Linked
 pub mod Links
 pub mod Parents

@@ -1,12 +1,15 @@
 //! Documents whose references hold.
 
-ghost use Rattle.std.specs.Prelude.{◌≡◌, ◌<◌, [], length, IfOk, IfErr};
+ghost use Rattle.std.specs.Prelude.{◌≡◌, ◌<◌, ◌≤◌, [], length, IfOk, IfErr};
+ghost use Rattle.std.specs.List.{All};
 ghost use Rattle.lot_types.specs.Refusals.{Fails};
 ghost use Rattle.lot_refs.specs.Linked.{IsValid, layers_of};
-ghost use Rattle.lot_types.specs.WellFormed.{IsWellFormed};
+ghost use Rattle.lot_types.specs.WellFormed.{IsWellFormed, max_layers};
+ghost use Rattle.lot_refs.specs.Drawn.{drawn_layers};
 ghost use Rattle.lot_refs.specs.Parents.{parents, parent_of, BeginsChain};
 ghost use Rattle.lot_refs.specs.RefFaults.{ref_faults};
 
+use crate::drawn::list_drawn;
 use crate::parent_faults::find_fault;
 use crate::parents::link_parents;
 use lot_types::{Doc, Read, Refusal, Seq};
@@ -31,9 +34,11 @@ pub fn check_refs(alloc: Global, r: Read) -> Result<Linked, Refusal>
     if let Some(found) = find_fault(alloc, r.doc.comps.items(), parents.items())? {
         return Err(found.refusal(alloc, &r.doc));
     }
+    let drawn = list_drawn(alloc, r.doc.comps.items())?;
     Ok(Linked {
         doc: r.doc,
         parents,
+        drawn,
     })
 }
 
@@ -43,6 +48,8 @@ pub struct Linked {
     doc: Doc,
     /// The parent of each layer of each composition.
     parents: Seq<Seq<Option<u32>>>,
+    /// The layers of each composition that are drawn by themselves.
+    drawn: Seq<Seq<u32>>,
 }
 
 impl Model for Linked {
@@ -50,6 +57,7 @@ impl Model for Linked {
     ghost use Rattle.std.specs.Coded.{codes};
     ghost use Rattle.lot_types.specs.contracts.item.Item as item;
     ghost use Rattle.lot_types.specs.declared.doc.Doc.{Doc};
+    ghost use Rattle.lot_refs.specs.Drawn.{drawn_tables};
     ghost use Rattle.lot_refs.specs.Linked.{IsValid, parent_tables};
 
     ghost Value = { Doc };
@@ -58,7 +66,7 @@ impl Model for Linked {
 
     ghost view = { λ it. it.doc };
 
-    ghost invariant = { λ it. (it.parents ≡ parent_tables it.doc.comps) × IsValid it.doc };
+    ghost invariant = { λ it. (it.parents ≡ parent_tables it.doc.comps) × (it.drawn ≡ drawn_tables it.doc.comps) × IsValid it.doc };
 }
 
 impl Linked {
@@ -80,6 +88,26 @@ impl Linked {
     {
         let parent = self.look_up(c, l);
         parent
+    }
+
+    /// The numbers of the layers of composition `c` that are drawn by themselves, in order. It takes constant time and no
+    /// memory.
+    pub fn drawn_layers(&self, c: u32) -> &[u32]
+        requires comp { c < length self.now.comps }
+        ensures value { result.now ≡ drawn_layers (layers_of self.now c) }
+        ensures within { All (λ l. l < length (layers_of self.now c)) result.now }
+        ensures few { length result.now ≤ max_layers }
+    {
+        self.list_of(c)
+    }
+
+    /// What the table of drawn layers has for a composition.
+    fn list_of(&self, c: u32) -> &[u32]
+        requires comp { c < length self.now.comps }
+        ensures value { result.now ≡ drawn_layers (layers_of self.now c) }
+        ensures valid { IsValid self.now }
+    {
+        self.drawn.items()[c as usize].items()
     }
 
     /// What the table of parents has for a layer.

@@ -59,12 +59,6 @@ ink_value (Flat rgb) n = plain (color_text rgb) ∷ []
 ink_value (Linear from to stops) n = reference n
 ink_value (Radial center radius focus stops) n = reference n
 
--- The ink is one color.
-abbrev pub IsFlat : Ink → Type 0
-IsFlat (Flat rgb) = Unit {0}
-IsFlat (Linear from to stops) = ⊥
-IsFlat (Radial center radius focus stops) = ⊥
-
 -- What comes before the ink.
 unfoldable pub before_ink : Brush → List ℕ
 before_ink (Fill even_odd) = tag_start (codes "path") ++ attribute_start (codes "fill")

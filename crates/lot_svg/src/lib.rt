@@ -7,12 +7,14 @@
 #![tactic(auto)]
 
 mod element;
+mod fill;
 mod head;
 mod laws;
 mod layer;
 mod number;
 mod paint;
 mod path_data;
+mod stroke;
 mod writer;
 
 pub use laws::{calls_give_the_text, identifiers_open_in_order};

@@ -1,28 +1,50 @@
 //! Paints.
-ghost use Rattle.std.specs.Prelude.{◌≡◌, false, OnOk};
-ghost use Rattle.lot_types.specs.declared.brush.Brush.TheVariants.{Fill};
-ghost use Rattle.lot_svg.specs.Paint.{IsFlat, before_ink, after_ink, brush_text, data_text, ink_value, path_items};
+ghost use Rattle.std.specs.Prelude.{◌≡◌, OnOk};
+ghost use Rattle.lot_svg.specs.Paint.{before_ink, after_ink, brush_text, data_text, ink_value, path_items};
 ghost use Rattle.lot_svg.specs.Written.{append, add};
+ghost use Rattle.lot_types.specs.Flat.{IsFlat};
 
 use crate::Writer;
-use lot_types::{Contour, Fx, Ink, Memory, Paint};
+use lot_types::{Brush, Contour, Fx, Ink, Memory, Paint};
 
 impl Writer {
-    /// Writes what a fill has before its ink.
+    /// Writes what a path has before its ink.
     #[tactic(auto, using(crate::proofs::Appends::appending), unfolding(crate::specs::Paint::before_ink))]
-    fn start_fill(&mut self) -> Result<(), Memory>
-        ensures { OnOk result (self.new ≡ append self.old (before_ink (Fill false))) }
+    fn start_path(&mut self, brush: &Brush) -> Result<(), Memory>
+        ensures { OnOk result (self.new ≡ append self.old (before_ink brush.now)) }
     {
-        self.start_tag("path")?;
-        self.start_attribute("fill")
+        match brush {
+            Brush::Fill { .. } => self.start_fill(),
+            Brush::Stroke { .. } => self.start_stroke(),
+        }
     }
 
-    /// Writes the attributes of a fill by the rule `nonzero`, which is SVG's own, after its ink.
-    #[tactic(auto, using(crate::proofs::Appends::appending), unfolding(crate::specs::Paint::brush_text))]
-    fn put_nonzero(&mut self, opacity: Fx) -> Result<(), Memory>
-        ensures { OnOk result (self.new ≡ append self.old (brush_text (Fill false) opacity)) }
+    /// Writes the attributes of a brush and of its opacity.
+    fn put_brush(&mut self, brush: &Brush, opacity: Fx) -> Result<(), Memory>
+        ensures { OnOk result (self.new ≡ append self.old (brush_text brush.now opacity)) }
     {
-        self.put_opacity("fill-opacity", opacity)
+        match brush {
+            Brush::Fill { even_odd } => {
+                self.put_opacity("fill-opacity", opacity)?;
+                self.put_rule(*even_odd)
+            }
+            Brush::Stroke {
+                width,
+                cap,
+                join,
+                miter,
+                dashes,
+                dash_offset,
+            } => {
+                self.put_opacity("stroke-opacity", opacity)?;
+                self.put_length_attribute("stroke-width", *width)?;
+                self.put_cap(*cap)?;
+                self.put_join(*join)?;
+                self.put_miter(*join, *miter)?;
+                self.put_dashes(dashes.items())?;
+                self.put_dash_offset(*dash_offset)
+            }
+        }
     }
 
     /// Writes the attribute of path data.
@@ -35,14 +57,13 @@ impl Writer {
         self.end_attribute()
     }
 
-    /// Writes what a fill has after its ink.
+    /// Writes what a path has after its ink.
     #[tactic(auto, using(crate::proofs::Appends::appending), unfolding(crate::specs::Paint::after_ink))]
-    fn end_fill(&mut self, p: &Paint) -> Result<(), Memory>
-        requires { p.now.brush ≡ Fill false }
+    fn end_path(&mut self, p: &Paint) -> Result<(), Memory>
         ensures { OnOk result (self.new ≡ append self.old (after_ink p.now)) }
     {
         self.end_attribute()?;
-        self.put_nonzero(p.opacity)?;
+        self.put_brush(&p.brush, p.opacity)?;
         self.put_transform(&p.matrix)?;
         self.put_data(p.contours.items())?;
         self.end_empty_tag()
@@ -59,14 +80,13 @@ impl Writer {
         }
     }
 
-    /// Writes the path of a fill of one color by the rule `nonzero`.
-    pub(crate) fn put_fill(&mut self, p: &Paint) -> Result<(), Memory>
+    /// Writes the path of a paint of one color.
+    pub(crate) fn put_flat(&mut self, p: &Paint) -> Result<(), Memory>
         requires flat { IsFlat p.now.ink }
-        requires nonzero { p.now.brush ≡ Fill false }
         ensures { OnOk result (self.new ≡ add (path_items p.now self.old.next) self.old) }
     {
-        self.start_fill()?;
+        self.start_path(&p.brush)?;
         self.put_ink(&p.ink)?;
-        self.end_fill(p)
+        self.end_path(p)
     }
 }

@@ -1,8 +1,7 @@
 //! The text of a frame while it is written.
 ghost use Rattle.std.specs.Prelude.{◌≡◌, ◌+◌, ◌≤◌, false, length, None, OnOk, IfOk};
-ghost use Rattle.lot_types.specs.declared.brush.Brush.TheVariants.{Fill};
-ghost use Rattle.lot_svg.specs.Paint.{IsFlat};
 ghost use Rattle.lot_svg.specs.Written.{unwritten, append, begin, open_layer, paint, close_layer, finish};
+ghost use Rattle.lot_types.specs.Flat.{IsFlat};
 
 use lot_types::{Bytes, Fx, Memory, Paint, Piece};
 use std::alloc::Global;
@@ -80,17 +79,16 @@ impl Writer {
         self.open_group(p)
     }
 
-    /// Writes a paint, which is not written where it has no contours. As yet each is a fill of one color by the rule
-    /// `nonzero`.
+    /// Writes a paint: its contours, filled or stroked. It is not written where it has no contours. As yet each is of
+    /// one color.
     pub fn paint(&mut self, p: &Paint) -> Result<(), Memory>
         requires flat { IsFlat p.now.ink }
-        requires nonzero { p.now.brush ≡ Fill false }
         ensures { OnOk result (self.new ≡ paint self.old p.now) }
     {
         if p.contours.items().is_empty() {
             return Ok(());
         }
-        self.put_fill(p)
+        self.put_flat(p)
     }
 
     /// Closes the group of a layer and, where it has a matte, the group that the matte masks.

@@ -1,1 +1,4 @@
+pub mod Held
 pub mod Limits
+pub mod Present
+pub mod Variants

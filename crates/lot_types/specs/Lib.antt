@@ -1,8 +1,13 @@
 pub mod Curve
 pub mod FaultName
+pub mod Flat
 pub mod Frame
 pub mod Handles
+pub mod Items
 pub mod Keyframes
+pub mod Options
+pub mod Painting
+pub mod PropertyValues
 pub mod Ramp
 pub mod Range
 pub mod Refusals

@@ -72,6 +72,15 @@ HasScalar d p = IsSome (track_of scalar_in d p)
 abbrev pub HasVector : Doc → Prop Point → Type 0
 HasVector d p = IsSome (track_of vector_in d p)
 
+abbrev pub HasColor : Doc → Prop Color → Type 0
+HasColor d p = IsSome (track_of color_in d p)
+
+abbrev pub HasBezier : Doc → Prop Curve → Type 0
+HasBezier d p = IsSome (track_of bezier_in d p)
+
+abbrev pub HasGradient : Doc → Prop Ramp → Type 0
+HasGradient d p = IsSome (track_of gradient_in d p)
+
 abbrev pub HasPosition : Doc → Position → Type 0
 HasPosition d (Whole p) = HasVector d p
 HasPosition d (Split x y) = HasScalar d x × HasScalar d y

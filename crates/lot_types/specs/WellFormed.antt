@@ -8,6 +8,7 @@ use Rattle.lot_types.specs.declared.layer.LayerKind.{LayerKind}
 use Rattle.lot_types.specs.declared.layer.LayerKind.TheVariants as kind
 use Rattle.lot_types.specs.declared.matte.Matte.TheVariants.{No}
 use Rattle.lot_types.specs.declared.read.Read.{Read}
+use Rattle.lot_types.specs.Items.{AreItemsOf}
 use Rattle.lot_types.specs.Slots.{HasValues}
 
 -- The greatest number of layers of a composition, and of compositions: 1,024 assets and the main composition.
@@ -20,16 +21,27 @@ max_comps = 1025
 abbrev pub HasFewLayers : Comp → Type 0
 HasFewLayers comp = length comp.layers ≤ max_layers
 
--- The transform of each layer of a composition has values in the document.
-abbrev pub LayersHaveValues : Doc → Comp → Type 0
-LayersHaveValues d comp = All (λ layer. HasValues d layer.ks) comp.layers
+-- The properties of what a layer shows have values in the document. Compositions are not built yet.
+abbrev pub HasKindValues : Doc → LayerKind → Type 0
+HasKindValues d (kind.Solid w h rgb) = Unit {0}
+HasKindValues d kind.Null = Unit {0}
+HasKindValues d (kind.Precomp name w h st sr tm) = ⊥
+HasKindValues d (kind.Shape items) = AreItemsOf d items
 
--- So far a layer is a solid or a null layer, without masks and without a matte.
+-- The properties of a layer have values in the document.
+pub record HasLayerValues (d : Doc) (layer : Layer) : Type 0 where
+  pub transform : HasValues d layer.ks
+  pub kind : HasKindValues d layer.kind
+
+abbrev pub LayersHaveValues : Doc → Comp → Type 0
+LayersHaveValues d comp = All (HasLayerValues d) comp.layers
+
+-- So far a layer is a solid, a null layer or a shape layer, without masks and without a matte.
 abbrev pub IsBuiltKind : LayerKind → Type 0
 IsBuiltKind (kind.Solid w h rgb) = Unit {0}
 IsBuiltKind kind.Null = Unit {0}
 IsBuiltKind (kind.Precomp name w h st sr tm) = ⊥
-IsBuiltKind (kind.Shape items) = ⊥
+IsBuiltKind (kind.Shape items) = Unit {0}
 
 pub record IsBuilt (layer : Layer) : Type 0 where
   pub kind : IsBuiltKind layer.kind

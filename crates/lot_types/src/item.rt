@@ -1,6 +1,7 @@
 //! Shapes, styles and groups of shape layers.
 
 ghost use Rattle.std.specs.Prelude.{◌≡◌, IfOk};
+ghost use Rattle.lot_types.specs.Items.{is_hidden as is_hidden_in};
 
 use crate::duplicate::{copy_four, copy_three, copy_two};
 use crate::{Bezier, Color, Dash, Duplicate, Fx, Memory, Point, Prop, Seq, Stops, Transform};
@@ -115,6 +116,28 @@ pub enum Item {
         hidden: bool,
         ks: Transform,
     },
+}
+
+impl Item {
+    /// The member `hd`: the item counts as absent, with all that it holds.
+    #[tactic(auto, using(crate::proofs::Variants::hidden_kinds))]
+    pub fn is_hidden(&self) -> bool
+        ensures { result ≡ is_hidden_in self.now }
+    {
+        match self {
+            Item::Group { hidden, .. } => *hidden,
+            Item::Rect { hidden, .. } => *hidden,
+            Item::Ellipse { hidden, .. } => *hidden,
+            Item::Star { hidden, .. } => *hidden,
+            Item::Path { hidden, .. } => *hidden,
+            Item::Fill { hidden, .. } => *hidden,
+            Item::Stroke { hidden, .. } => *hidden,
+            Item::GradientFill { hidden, .. } => *hidden,
+            Item::GradientStroke { hidden, .. } => *hidden,
+            Item::Trim { hidden, .. } => *hidden,
+            Item::Place { hidden, .. } => *hidden,
+        }
+    }
 }
 
 impl Duplicate for Item {

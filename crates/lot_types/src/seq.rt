@@ -43,6 +43,13 @@ impl<T> Seq<T> {
         })
     }
 
+    /// The list of the items of a vector. It takes no memory.
+    pub fn of_vec(items: Vec<T>) -> Seq<T>
+        ensures { result ≡ items.items }
+    {
+        Seq { items }
+    }
+
     /// The items in order.
     pub fn items(&self) -> &[T]
         ensures { result.now ≡ self.now }

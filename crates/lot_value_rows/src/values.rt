@@ -185,7 +185,7 @@ fn is_path(
     match &read {
         Ok(p) => match p {
             Prop::Own(_) => {
-                let b = value_bezier(&d, p, t)?;
+                let b = value_bezier(alloc, &d, p, t)?;
                 Ok(
                     are_points(b.v.items(), v)
                         && are_points(b.i.items(), i)
@@ -211,7 +211,7 @@ fn is_gradient(alloc: Global, t: Time, flat: &[i64]) -> Result<bool, Fail> {
     let d = document(alloc, t, Seq::new(alloc));
     match &read {
         Ok(p) => match p {
-            Prop::Own(_) => Ok(are(value_gradient(&d, p, t)?.flat.items(), flat)),
+            Prop::Own(_) => Ok(are(value_gradient(alloc, &d, p, t)?.flat.items(), flat)),
             Prop::Slot(_) => Ok(false),
         },
         Err(_) => Ok(false),

@@ -1,4 +1,4 @@
-use Rattle.std.proofs.Common.{◌≡◌, ℕ, List, Option, Some, IfOk, sym, ap, ◌∙◌, rules}
+use Rattle.std.proofs.Common.{◌≡◌, ℕ, List, Some, sym, ap, ◌∙◌, rules}
 use Rattle.lot_comp.specs.Frame.{frame, main_comp, evaluated, piece_at}
 use Rattle.lot_play.specs.Picture.{svg_of}
 use Rattle.lot_play.specs.Walk.{after_frame}

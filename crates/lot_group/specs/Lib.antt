@@ -1,0 +1,10 @@
+pub mod Collected
+pub mod Group
+pub mod Live
+pub mod Outlines
+pub mod Painting
+pub mod Pass
+pub mod Place
+pub mod Product
+pub mod Range
+pub mod TrimOrder

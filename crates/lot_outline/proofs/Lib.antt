@@ -1,0 +1,4 @@
+mod Backwards
+mod Corners
+mod Leaves
+mod Neighbours

@@ -1,0 +1,9 @@
+pub mod Arc
+pub mod Closed
+pub mod Ellipse
+pub mod Leaf
+pub mod Number
+pub mod Polystar
+pub mod Rectangle
+pub mod Reversed
+pub mod Sides
