@@ -1,1 +1,2 @@
+mod FullTable
 mod Styles

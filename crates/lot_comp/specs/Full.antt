@@ -1,6 +1,6 @@
 -- The full matrix of a layer: its own, and then that of its parent, after the Lottie Specification 1.0, "Layers". The
 -- product rounds, so that its order matters.
-use Rattle.std.specs.Prelude.{ℕ, ℤ, List, [], ◌∷◌, Option, Some, None, slice_get, option_and_then}
+use Rattle.std.specs.Prelude.{◌≡◌, ◌<◌, ℕ, ℤ, List, [], ◌∷◌, length, Option, Some, None, slice_get, slice_index_or, option_and_then}
 use Rattle.lot_group.specs.Product.{then_both}
 use Rattle.lot_prop.specs.Transform.{own_matrix}
 use Rattle.lot_refs.specs.Linked.{layers_of}
@@ -30,3 +30,8 @@ full_matrix d c l t = chain_product d c t l (ancestors_of (layers_of d c) l)
 abbrev pub full_by_parent : Doc → ℕ → ℕ → ℤ → Option ℕ → Option Matrix
 full_by_parent d c l t None = own_at d c t l
 full_by_parent d c l t (Some k) = then_both (own_at d c t l) (full_matrix d c k t)
+
+-- The full matrices of all layers of composition c at a time.
+pub record AreFull (d : Doc) (c : ℕ) (t : ℤ) (ms : List Matrix) : Type 0 where
+  pub count : length ms ≡ length (layers_of d c)
+  pub full : (l : ℕ) (other : Matrix) → l < length ms → full_matrix d c l t ≡ Some (slice_index_or ms l other)

@@ -50,7 +50,7 @@ fn product_of(d: &Linked, c: u32, l: u32, rest: &[u32], t: Time) -> Matrix
 
 /// A layer's own matrix at a time.
 #[tactic(auto, unfolding(crate::specs::Full::own_at))]
-fn own_at(d: &Linked, c: u32, l: u32, t: Time) -> Matrix
+pub(crate) fn own_at(d: &Linked, c: u32, l: u32, t: Time) -> Matrix
     requires comp { c < length d.now.comps }
     requires layer { l < length (layers_of d.now c) }
     ensures { own_in d.now c t l ≡ Some result }

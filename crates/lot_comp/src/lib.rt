@@ -7,7 +7,9 @@
 mod chain;
 mod evaluated;
 mod full_matrix;
+mod full_table;
 mod shape;
 mod solid;
 
-pub use evaluated::piece;
+pub use evaluated::{piece, piece_with};
+pub use full_table::full_matrices;

@@ -2,7 +2,7 @@
 ghost use Rattle.std.specs.Prelude.{◌≡◌, ℕ, ◌+◌, ◌≤◌, ◌<◌, Some, List, ◌∷◌, length, fold, OnOk, IfOk};
 ghost use Rattle.std.specs.List.{All};
 ghost use Rattle.lot_comp.specs.Frame.{frame, nodes, is_visible as visible_at};
-ghost use Rattle.lot_comp.specs.Full.{layer_at};
+ghost use Rattle.lot_comp.specs.Full.{AreFull, full_matrix, layer_at};
 ghost use Rattle.lot_comp.specs.Piece.{IsPlain, IsFlatPaint};
 ghost use Rattle.lot_play.specs.Picture.{svg_of};
 ghost use Rattle.lot_play.specs.Walk.{after_frame, after_piece};
@@ -10,10 +10,10 @@ ghost use Rattle.lot_refs.specs.Linked.{layers_of};
 ghost use Rattle.lot_svg.specs.Written.{paint};
 ghost use Rattle.lot_types.specs.WellFormed.{max_layers};
 
-use lot_comp::piece;
+use lot_comp::{full_matrices, piece_with};
 use lot_refs::Linked;
 use lot_svg::Writer;
-use lot_types::{Bytes, Layer, Memory, Paint, Piece, Steps, Time};
+use lot_types::{Bytes, Layer, Matrix, Memory, Paint, Piece, Steps, Time};
 use std::alloc::Global;
 use std::sync::ledger::Ledger;
 
@@ -50,27 +50,49 @@ fn write_layers<L: Ledger>(
     ensures written { OnOk result (after_frame d.now (frame d.now c t) w.old ≡ Some w.new) }
     ensures counted { steps.new ≤ steps.old + max_layers }
 {
+    let matrices = full_matrices(alloc, d, c, t)?;
+    write_drawn(alloc, d, c, t, matrices.items(), w, steps)
+}
+
+/// Writes the layers of composition `c` that are drawn, from the last to the first. The full matrix of each layer is given.
+fn write_drawn<L: Ledger>(
+    alloc: Global,
+    d: &Linked,
+    c: u32,
+    t: Time,
+    matrices: &[Matrix],
+    w: &mut Writer,
+    steps: &mut Steps<L>,
+) -> Result<(), Memory>
+    requires comp { c < length d.now.comps }
+    requires matrices { AreFull d.now c t matrices.now }
+    ensures written { OnOk result (after_frame d.now (frame d.now c t) w.old ≡ Some w.new) }
+    ensures counted { steps.new ≤ steps.old + max_layers }
+{
     let drawn = d.drawn_layers(c);
     let mut i = drawn.len();
     while i > 0 {
         i -= 1;
-        write_layer(alloc, d, c, drawn[i], t, w, steps)?;
+        let l = drawn[i];
+        write_layer(alloc, d, c, l, t, &matrices[l as usize], w, steps)?;
     }
     Ok(())
 }
 
-/// Writes layer `l` of composition `c`, where it is visible.
+/// Writes layer `l` of composition `c`, where it is visible. Its full matrix is given.
 fn write_layer<L: Ledger>(
     alloc: Global,
     d: &Linked,
     c: u32,
     l: u32,
     t: Time,
+    matrix: &Matrix,
     w: &mut Writer,
     steps: &mut Steps<L>,
 ) -> Result<(), Memory>
     requires comp { c < length d.now.comps }
     requires layer { l < length (layers_of d.now c) }
+    requires matrix { full_matrix d.now c l t ≡ Some matrix.now }
     ensures written { OnOk result ((ls : List ℕ) → after_frame d.now (nodes d.now c t ls) w.new
         ≡ after_frame d.now (nodes d.now c t (l ∷ ls)) w.old) }
     ensures counted { steps.new ≤ steps.old + 1 }
@@ -78,7 +100,7 @@ fn write_layer<L: Ledger>(
     if !is_visible(layer_of(d, c, l), t) {
         return Ok(());
     }
-    let p = piece(alloc, d, c, l, t, steps)?;
+    let p = piece_with(alloc, d, c, l, t, matrix, steps)?;
     write_piece(w, &p)
 }
 

@@ -2,7 +2,7 @@ use Rattle.std.proofs.Common.{◌≡◌, ℕ, List, [], ◌∷◌, ◌++◌, ◌
 use Rattle.std.proofs.lemmas.List.{take_more, reverse-append}
 use Rattle.lot_comp.specs.Frame.{nodes}
 use Rattle.lot_play.specs.Walk.{after_frame}
-use Rattle.lot_play.proofs.frame.write_layers.Goals as goal
+use Rattle.lot_play.proofs.frame.write_drawn.Goals as goal
 
 pub loop-i-preserved : goal.loop-i-preserved
 loop-i-preserved g c =

@@ -3,7 +3,7 @@ use Rattle.std.proofs.Common.{◌≡◌, ◌≤◌, ◌+◌, length, take, rever
 use Rattle.lot_comp.specs.Frame.{nodes, frame}
 use Rattle.lot_play.specs.Walk.{after_frame}
 use Rattle.lot_types.specs.WellFormed.{max_layers}
-use Rattle.lot_play.proofs.frame.write_layers.Given as goal
+use Rattle.lot_play.proofs.frame.write_drawn.Given as goal
 
 abbrev pub invariant-loop-i : goal.invariant-loop-i
 invariant-loop-i g l =
