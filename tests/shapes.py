@@ -1,18 +1,22 @@
 #!/usr/bin/env python3
-"""Makes the cases `shapes_*`: frames of shape layers, evaluated a second time in Python's whole numbers.
+"""Writes frames of shape layers, evaluated a second time in Python's whole numbers.
 
-Usage: tests/shapes.py
-It is written from docs/definitions/ and not from the program: the leaves that a style paints are found by comparing
-places, and no pass over the items is made. Where a case has its numbers worked out by hand, the comment beside it
-shows them.
+Usage: tests/shapes.py DOCUMENT TIME
+It is written from docs/definitions/ and not from the program: the leaves that a style paints and the trims that act on a
+leaf are found by comparing places, and no pass over the items is made. `shape_cases.py` takes its expected frames from
+here, and so do the pictures of ../examples.
 """
 import decimal
+import functools
+import itertools
 import json
 import pathlib
+import sys
 
-from exact import IDENTITY, LARGEST, ONE, along, curve_between, eased, limited, printed, rounded, sine_and_cosine, then, transform
+import gradients
+import trims
+from exact import IDENTITY, ONE, along, curve_between, eased, limited, printed, rounded, sine_and_cosine, then, transform
 
-CASES = pathlib.Path(__file__).resolve().parent / "cases"
 HANDLE = 551_900
 
 
@@ -42,6 +46,10 @@ def path(v):
     return v.get("c", False), *([vector(p) for p in v[name]] for name in ("v", "i", "o"))
 
 
+def numbers(v):
+    return [micro(x) for x in v]
+
+
 def handle(h):
     def three(v, low, high):
         v = v if isinstance(v, list) else [v]
@@ -55,6 +63,8 @@ def mixed(of, s0, s1, part):
         return part(0, s0, s1)
     if of in (vector, color):
         return tuple(part(n, a, b) for n, (a, b) in enumerate(zip(s0, s1)))
+    if of is numbers:
+        return [part(0, a, b) for a, b in zip(s0, s1)] if len(s0) == len(s1) else s0
     if len(s0[1]) != len(s1[1]):
         return s0
     return s0[0], *([tuple(part(0, a, b) for a, b in zip(p, q)) for p, q in zip(s0[k], s1[k])] for k in (1, 2, 3))
@@ -203,7 +213,7 @@ def contours(x, t):
 
 # ---- items by place
 
-LEAVES, STYLES = ("rc", "el", "sr", "sh"), ("fl", "st")
+LEAVES, STYLES = ("rc", "el", "sr", "sh"), ("fl", "st", "gf", "gs")
 
 
 def live(items, place=()):
@@ -246,13 +256,41 @@ def mapped(m, p):
     return (limited(rounded(p[0] * m[0] + p[1] * m[2], ONE) + m[4]), limited(rounded(p[0] * m[1] + p[1] * m[3], ONE) + m[5]))
 
 
-def painted(entries, place, t):
+def is_before(q, place):
+    """Whether the item at q is before the one at a place in its list, or in an item before it."""
+    return len(q) >= len(place) and q[:len(place) - 1] == place[:-1] and q[len(place) - 1] < place[-1]
+
+
+def outlines(entries, t):
+    """The outline of each leaf by its place, after all trims that act on it."""
+    items = dict(entries)
+    leaves = [q for q, x in entries if x["ty"] in LEAVES]
+
+    def trims_of(q):
+        acting = [p for p, x in entries if x["ty"] == "tm" and is_before(q, p)]
+        return sorted(acting, key=lambda p: (-len(p), p[-1]))
+
+    def outline(q, places):
+        """The outline of the leaf at q after the trims at these places, which are the first of its own."""
+        return after(places[-1])[q] if places else contours(items[q], t)
+
+    @functools.cache
+    def after(p):
+        """What the trim at p leaves of the leaves on which it acts."""
+        x, on = items[p], [q for q in leaves if is_before(q, p)]
+        before = [outline(q, [r for r in trims_of(q) if (-len(r), r[-1]) < (-len(p), p[-1])]) for q in on]
+        s, e, o = (member(scalar, x, name, t, default) for name, default in (("s", 0), ("e", 100 * ONE), ("o", 0)))
+        return dict(zip(on, trims.trimmed(int(x.get("m", 1)), s, e, o, before)))
+
+    return {q: outline(q, trims_of(q)) for q in leaves}
+
+
+def painted(entries, outline_at, place, t):
     made = []
-    for q, x in entries:
-        is_before = len(q) >= len(place) and q[:len(place) - 1] == place[:-1] and q[len(place) - 1] < place[-1]
-        if x["ty"] in LEAVES and is_before:
+    for q, outline in outline_at.items():
+        if is_before(q, place):
             m = product(holders(entries, q, len(place) - 1), t)
-            for closed, start, segs in contours(x, t):
+            for closed, start, segs in outline:
                 made.append((closed, mapped(m, start), [tuple(mapped(m, p) for p in s) for s in segs]))
     return made
 
@@ -303,22 +341,34 @@ def dashes_text(x, t):
     return attribute("stroke-dasharray", " ".join(map(length, dashes))) + offset
 
 
-def style_text(entries, place, x, t):
-    made = painted(entries, place, t)
+def gradient_text(number, x, t):
+    s, e = value(vector, x["s"], t), value(vector, x["e"], t)
+    h, a = (member(scalar, x, name, t, 0) for name in ("h", "a"))
+    stops = gradients.merged(int(x["g"]["p"]), value(numbers, x["g"]["k"], t))
+    return gradients.definition(number, int(x.get("t", gradients.LINEAR)), s, e, h, a, stops)
+
+
+def style_text(entries, outline_at, place, x, t, identifiers):
+    """The text of a paint, after that of its gradient, which takes the next identifier."""
+    made = painted(entries, outline_at, place, t)
     if not made:
         return ""
     groups = holders(entries, place)
     o = opacity(x, t)
     for group in groups:
         o = rounded(o * group_opacity(group, t), ONE)
-    ink = "#" + "".join(f"{rounded(v * 255, ONE):02x}" for v in value(color, x["c"], t))
+    if x["ty"] in ("fl", "st"):
+        before, ink = "", gradients.ink(value(color, x["c"], t))
+    else:
+        number = next(identifiers)
+        before, ink = gradient_text(number, x, t), f"url(#i{number})"
     rest = matrix_text(product(groups, t)) + attribute("d", data(made)) + "/>\n"
-    if x["ty"] == "fl":
+    if x["ty"] in ("fl", "gf"):
         rule = attribute("fill-rule", "evenodd") if x.get("r", 1) == 2 else ""
-        return "<path" + attribute("fill", ink) + fraction_text("fill-opacity", o) + rule + rest
+        return before + "<path" + attribute("fill", ink) + fraction_text("fill-opacity", o) + rule + rest
     join = x.get("lj", 2)
     miter = attribute("stroke-miterlimit", length(max(ONE, micro(x.get("ml", 4))))) if join == 1 else ""
-    return ("<path" + attribute("fill", "none") + attribute("stroke", ink) + fraction_text("stroke-opacity", o)
+    return (before + "<path" + attribute("fill", "none") + attribute("stroke", ink) + fraction_text("stroke-opacity", o)
             + attribute("stroke-width", length(max(0, value(scalar, x["w"], t))))
             + attribute("stroke-linecap", ["butt", "round", "square"][x.get("lc", 2) - 1])
             + attribute("stroke-linejoin", ["miter", "round", "bevel"][join - 1]) + miter + dashes_text(x, t) + rest)
@@ -335,136 +385,17 @@ def full_matrix(layers, layer, t):
 def frame(doc, t):
     w, h = (length(micro(doc[name])) for name in ("w", "h"))
     text = f'<svg xmlns="http://www.w3.org/2000/svg" version="1.1" width="{w}" height="{h}" viewBox="0 0 {w} {h}">\n'
+    identifiers = itertools.count(1)
     for layer in reversed(doc["layers"]):
         if layer.get("hd") or not micro(layer["ip"]) <= t < micro(layer["op"]) or layer["ty"] == 3:
             continue
         entries = list(live(layer["shapes"]))
+        outline_at = outlines(entries, t)
         text += "<g" + matrix_text(full_matrix(doc["layers"], layer, t)) + fraction_text("opacity", opacity(layer["ks"], t)) + ">\n"
-        text += "".join(style_text(entries, place, x, t) for place, x in reversed(entries) if x["ty"] in STYLES)
+        text += "".join(style_text(entries, outline_at, place, x, t, identifiers)
+                        for place, x in reversed(entries) if x["ty"] in STYLES)
         text += "</g>\n"
     return text + "</svg>\n"
-
-
-# ---- cases
-
-RECT = '{"ty":"rc","p":{"k":[0,0]},"s":{"k":[2,2]}}'
-BLACK = '{"ty":"fl","c":{"k":[0,0,0]}}'
-LINE = '"c":{"k":[0,0,0]},"w":{"k":2}'
-
-
-def group(*items):
-    return '{"ty":"gr","it":[' + ",".join(items) + "]}"
-
-
-def shape(shapes, more=""):
-    return '{"ty":4,"ip":0,"op":60,"ks":{}' + more + ',"shapes":[' + ",".join(shapes) + "]}"
-
-
-def animation(*layers):
-    return '{"w":10,"h":10,"fr":30,"ip":0,"op":60,"layers":[' + ",\n".join(layers) + "]}\n"
-
-
-def rect(p, s, more=""):
-    return f'{{"ty":"rc","p":{{"k":{p}}},"s":{{"k":{s}}}{more}}}'
-
-
-def oval(p, s, more=""):
-    return f'{{"ty":"el","p":{{"k":{p}}},"s":{{"k":{s}}}{more}}}'
-
-
-def star(kind, points, outer, more=""):
-    return f'{{"ty":"sr","sy":{kind},"pt":{{"k":{points}}},"p":{{"k":[5,5]}},"or":{{"k":{outer}}}{more}}}'
-
-
-def tr(members):
-    return '{"ty":"tr",' + members + "}"
-
-
-def open_path(v, closed="false", i=None, o=None, more=""):
-    none = json.dumps([[0, 0]] * len(v))
-    return (f'{{"ty":"sh","ks":{{"k":{{"c":{closed},"v":{json.dumps(v)},"i":{json.dumps(i) if i else none},'
-            f'"o":{json.dumps(o) if o else none}}}}}{more}}}')
-
-
-def stroke(more=""):
-    return '{"ty":"st",' + LINE + more + "}"
-
-
-def keys(*pairs, more=""):
-    return "[" + ",".join(f'{{"t":{t},"s":{s}{more}}}' for t, s in pairs) + "]"
-
-
-EASE = ',"o":{"x":0.333,"y":0},"i":{"x":0.667,"y":1}'
-SINGLE = {
-    # The halves of 3.000001 by 5.000003 are 1.500001 and 2.500002, the odd millionth rounded away from 0.
-    "rectangle_of_odd_millionths": ([rect("[1,1]", "[3.000001,5.000003]"), BLACK], 0),
-    # The half of 4 is the smaller one, so that the radius 9 becomes 2, and q is 2 - 1.1038.
-    "rectangle_with_a_radius_above_the_half": ([rect("[5,5]", "[8,4]", ',"r":{"k":9}'), BLACK], 0),
-    "rectangle_with_round_corners": ([rect("[5,5]", "[8,6]", ',"r":{"k":1}'), BLACK], 0),
-    "rectangle_with_a_radius_below_zero": ([rect("[5,5]", "[8,6]", ',"r":{"k":-1}'), BLACK], 0),
-    "rectangle_of_negative_size": ([rect("[5,5]", "[-8,-6]", ',"r":{"k":1}'), BLACK], 0),
-    "rectangle_of_no_size": ([rect("[5,5]", "[0,0]", ',"r":{"k":1}'), BLACK], 0),
-    "rectangle_at_the_end_of_the_range": ([rect("[9999999,9999999]", "[8,8]", ',"r":{"k":1}'), BLACK], 0),
-    "rectangle_in_reverse": ([rect("[5,5]", "[8,6]", ',"d":3'), BLACK], 0),
-    "rectangle_in_another_direction": ([rect("[5,5]", "[8,6]", ',"d":2'), BLACK], 0),
-    "ellipse": ([oval("[5,5]", "[6,4]"), BLACK], 0),
-    "ellipse_of_negative_size": ([oval("[5,5]", "[-6,4]"), BLACK], 0),
-    "ellipse_in_reverse": ([oval("[5,5]", "[6,4]", ',"d":3'), BLACK], 0),
-    "star": ([star(1, 5, 4, ',"ir":{"k":2}'), BLACK], 0),
-    "star_with_round_points": ([star(1, 5, 4, ',"ir":{"k":2},"os":{"k":50},"is":{"k":-20},"r":{"k":10}'), BLACK], 0),
-    "star_of_negative_radii": ([star(1, 3, -4, ',"ir":{"k":-2},"os":{"k":100}'), BLACK], 0),
-    "polygon_with_round_points": ([star(2, 6, 4, ',"os":{"k":100}'), BLACK], 0),
-    "polygon_ignores_the_inner_radius": ([star(2, 3, 4, ',"ir":{"k":1},"is":{"k":70}'), BLACK], 0),
-    "polystar_of_less_than_a_point": ([star(2, 0.4, 4), BLACK], 0),
-    "polystar_of_a_hundred_thousand_points": ([star(2, 100000, 4, ',"os":{"k":100}'), BLACK], 0),
-    "polystar_in_reverse": ([star(1, 3, 4, ',"ir":{"k":1},"os":{"k":30},"d":3'), BLACK], 0),
-    "path_of_no_vertex": ([open_path([]), BLACK], 0),
-    "path_of_one_vertex": ([open_path([[1, 2]]), BLACK], 0),
-    "closed_path_of_one_vertex": ([open_path([[1, 2]], "true", [[1, 0]], [[0, 1]]), BLACK], 0),
-    "closed_path_with_tangents": ([open_path([[1, 1], [8, 1], [4, 8]], "true", [[0, 1], [-1, 0], [2, 2]], [[1, 0], [0, 1], [-2, 1]]), BLACK], 0),
-    "open_path_in_reverse": ([open_path([[1, 1], [8, 1], [4, 8]], "false", [[0, 1], [-1, 0], [2, 2]], [[1, 0], [0, 1], [-2, 1]], ',"d":3'), stroke()], 0),
-    "path_that_moves": (['{"ty":"sh","ks":{"k":[{"t":0,"s":[{"c":true,"v":[[1,1],[8,1],[4,8]],"i":[[0,0],[0,0],[0,0]],"o":[[1,0],[0,0],[0,0]]}]'
-                         + EASE + '},{"t":30,"s":[{"c":true,"v":[[2,2],[9,1],[4,9]],"i":[[0,0],[0,0],[0,1]],"o":[[1,0],[0,0],[0,0]]}]}]}}', BLACK], 10),
-    "fill_by_even_odd": ([RECT, '{"ty":"fl","c":{"k":[0.2,0.4,0.6]},"o":{"k":33.3},"r":2}'], 0),
-    # 0.00196 times 255 is 0.4998 and gives 0; 0.001961 gives 0.500055 and so 1.
-    "color_bytes_are_rounded": ([RECT, '{"ty":"fl","c":{"k":[0.00196,0.001961,2]}}'], 0),
-    "stroke_with_defaults": ([RECT, stroke()], 0),
-    "stroke_with_ends_and_corners": ([RECT, stroke(',"lc":3,"lj":3,"ml":7'), stroke(',"lc":1,"lj":1,"ml":0.5'), stroke(',"o":{"k":25}')], 0),
-    "stroke_of_negative_width": ([RECT, '{"ty":"st","c":{"k":[1,0,0]},"w":{"k":-3}}'], 0),
-    "stroke_with_dashes": ([RECT, stroke(',"d":[{"n":"d","v":{"k":3}},{"n":"g","v":{"k":-1}},{"n":"o","v":{"k":9}},{"n":"d","v":{"k":0.5}},{"n":"o","v":{"k":-2}}]')], 0),
-    "stroke_with_dashes_of_zero": ([RECT, stroke(',"d":[{"n":"d","v":{"k":0}},{"n":"g","v":{"k":-1}},{"n":"o","v":{"k":9}}]')], 0),
-    "stroke_with_an_offset_of_zero": ([RECT, stroke(',"d":[{"n":"d","v":{"k":1}},{"n":"o","v":{"k":0}}]')], 0),
-    "style_with_nothing_before_it": ([BLACK, RECT], 0),
-    "styles_from_the_last_to_the_first": ([RECT, '{"ty":"fl","c":{"k":[1,0,0]}}', rect("[5,5]", "[2,2]"), '{"ty":"fl","c":{"k":[0,1,0]}}', stroke()], 0),
-    "style_paints_nested_leaves": ([group(group(RECT, tr('"p":{"k":[1,0]}')), rect("[4,0]", "[2,2]"), tr('"s":{"k":[50,200]}')), RECT, BLACK], 0),
-    "style_in_a_group_paints_that_group_alone": ([RECT, group(oval("[5,5]", "[2,2]"), BLACK, tr('"p":{"k":[1,1]}'))], 0),
-    # The leaf is turned, then moved; moved and then turned it would lie elsewhere.
-    "maps_from_the_innermost_outwards": ([group(group(RECT, tr('"r":{"k":90}')), tr('"p":{"k":[3,1]}')), group(group(RECT, BLACK, tr('"p":{"k":[3,1]}')), tr('"r":{"k":90}')), BLACK], 0),
-    # 0.500001 times 0.5 is 0.250001, and times 0.5 again 0.125001. Rounded once it would be 0.125.
-    "group_opacity_is_rounded_at_each_step": ([group(group(RECT, '{"ty":"fl","c":{"k":[0,0,0]},"o":{"k":50.0001}}', tr('"o":{"k":50}')), tr('"o":{"k":50}'))], 0),
-    # 0.000005 times 0.5 is 0.000003, and times 0.1 it is 0. The outer group first it would be 0.000001.
-    "group_opacity_from_the_innermost_outwards": ([group(group(RECT, '{"ty":"fl","c":{"k":[0,0,0]},"o":{"k":0.0005}}', tr('"o":{"k":50}')), tr('"o":{"k":10}'))], 0),
-    "transform_outside_a_group_does_nothing": ([tr('"p":{"k":[5,5]},"o":{"k":1}'), RECT, BLACK], 0),
-    "second_transform_of_a_group_does_nothing": ([group(RECT, BLACK, tr('"hd":true,"p":{"k":[7,7]}'), tr('"p":{"k":[1,1]}'), tr('"p":{"k":[5,5]}'))], 0),
-    "hidden_items_count_as_absent": ([group(RECT).replace('"ty":"gr"', '"ty":"gr","hd":true'), rect("[5,5]", "[2,2]", ',"hd":true'), oval("[5,5]", "[2,2]"), stroke(',"hd":true'), BLACK], 0),
-    "items_that_move": ([oval('[{"t":0,"s":[0,0]' + EASE + '},{"t":20,"s":[9,3]}]', '[{"t":0,"s":[2,2]},{"t":20,"s":[4,8]}]'),
-                         '{"ty":"fl","c":{"k":[{"t":0,"s":[1,0,0]' + EASE + '},{"t":20,"s":[0,0,1]}]},"o":{"k":[{"t":0,"s":[100],"h":1},{"t":9,"s":[10]},{"t":20,"s":[60]}]}}'], 11),
-    "straight_after_the_map": ([group(open_path([[0, 0], [4, 4]], "false", [[0, 0], [0.0000004, 0]], [[0.000001, 0], [0, 0]]), tr('"s":{"k":[10,10]}')), stroke()], 0),
-}
-WHOLE = {
-    "layer_with_a_parent": (animation('{"ty":3,"ind":1,"ip":0,"op":60,"ks":{"r":{"k":90},"p":{"k":[4,0]}}}', shape([RECT, BLACK], ',"parent":1').replace('"ks":{}', '"ks":{"p":{"k":[2,1]},"o":{"k":40}}')), 0),
-    "layers_without_paints": (animation(shape([]), shape([RECT]), shape([BLACK])), 0),
-    "groups_in_groups": (animation(shape(["".join('{"ty":"gr","it":[' for _ in range(55)) + RECT + "".join("," + tr('"p":{"k":[0.1,0]}') + "]}" for _ in range(55)), BLACK])), 0),
-}
-
-
-def make(name, document, time):
-    case = CASES / ("shapes_" + name)
-    case.mkdir(exist_ok=True)
-    (case / "args").write_text(f"frame\n-\n{time}\n")
-    (case / "stdin").write_text(document)
-    doc = json.loads(document, parse_float=decimal.Decimal, parse_int=decimal.Decimal)
-    (case / "stdout").write_text(frame(numbered(doc), micro(time)))
 
 
 def numbered(x):
@@ -474,7 +405,11 @@ def numbered(x):
     return [numbered(v) for v in x] if isinstance(x, list) else x
 
 
-for name, (items, time) in SINGLE.items():
-    make(name, animation(shape(items)), time)
-for name, (document, time) in WHOLE.items():
-    make(name, document, time)
+def frame_of(document, time):
+    """The SVG of the text of a document at a time that is written as a number of JSON."""
+    doc = json.loads(document, parse_float=decimal.Decimal, parse_int=decimal.Decimal)
+    return frame(numbered(doc), micro(time))
+
+
+if __name__ == "__main__":
+    sys.stdout.write(frame_of(pathlib.Path(sys.argv[1]).read_text(), sys.argv[2]))

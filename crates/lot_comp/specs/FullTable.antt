@@ -21,7 +21,8 @@ abbrev pub IsMade : List (Option Matrix) → Option ℕ → Type 0
 IsMade made None = Unit {0}
 IsMade made (Some l) = IsSome (slice_index_or made l None)
 
--- Each of these layers is the child of the one before it, the first that of k, and the last is l; without layers k is l.
+-- Each of these layers is the child of the one before it, the first that of k, and the last is l; without layers k is
+-- l.
 abbrev pub LeadsDown : List Layer → ℕ → ℕ → List ℕ → Type 0
 LeadsDown layers l k [] = k ≡ l
 LeadsDown layers l k (j ∷ js) = (parent_of layers j ≡ Some k) × LeadsDown layers l j js
@@ -32,6 +33,7 @@ IsClimbed layers l above [] = above ≡ Some l
 IsClimbed layers l above (k ∷ js) = (parent_of layers k ≡ above) × LeadsDown layers l k js
 
 -- What is left to make: layers down to l, of which the first is the child of a layer that is made, or of none.
-pub record IsLeft (layers : List Layer) (made : List (Option Matrix)) (l : ℕ) (above : Option ℕ) (left : List ℕ) : Type 0 where
+pub record IsLeft (layers : List Layer) (made : List (Option Matrix)) (l : ℕ) (above : Option ℕ) (left : List ℕ)
+    : Type 0 where
   pub climbed : IsClimbed layers l above left
   pub made_above : IsMade made above

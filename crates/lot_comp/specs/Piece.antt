@@ -1,6 +1,5 @@
 -- A layer of a composition at a time, evaluated from scratch. Whether it is visible plays no part.
 use Rattle.std.specs.Prelude.{◌≡◌, ℕ, ℤ, pos, ◌^◌, true, false, List, [], ◌∷◌, Option, Some, None, option_and_then}
-use Rattle.std.specs.List.{All}
 use Rattle.lot_comp.specs.Full.{layer_at, full_matrix}
 use Rattle.lot_comp.specs.Shape.{shape_paints}
 use Rattle.lot_geom.specs.Matrix.{identity}
@@ -19,7 +18,6 @@ use Rattle.lot_types.specs.declared.piece.Piece.{Piece}
 use Rattle.lot_types.specs.declared.point.Point.{Point}
 use Rattle.lot_types.specs.declared.rgb.Rgb.{Rgb}
 use Rattle.lot_types.specs.declared.seg.Seg.{Seg}
-use Rattle.lot_types.specs.Flat.{IsFlat}
 
 abbrev pub corner : ℤ → ℤ → Point
 corner x y = record { x = x; y = y }
@@ -83,10 +81,6 @@ piece_of_layer d c l t layer =
 unfoldable pub piece_of : Doc → ℕ → ℕ → ℤ → Option Piece
 piece_of d c l t = option_and_then (piece_of_layer d c l t) (layer_at d c l)
 
--- What is drawn so far: a piece without masks, whose paints are of one color.
-abbrev pub IsFlatPaint : Paint → Type 0
-IsFlatPaint p = IsFlat p.ink
-
-pub record IsPlain (p : Piece) : Type 0 where
-  pub unmasked : p.masked ≡ false
-  pub paints : All IsFlatPaint p.paints
+-- Masks are not drawn yet.
+abbrev pub IsUnmasked : Piece → Type 0
+IsUnmasked p = p.masked ≡ false

@@ -1,8 +1,7 @@
 //! Layers at a time.
 ghost use Rattle.std.specs.Prelude.{◌≡◌, ◌<◌, ◌+◌, Some, length, IfOk};
 ghost use Rattle.lot_comp.specs.Full.{full_matrix};
-ghost use Rattle.lot_comp.specs.Piece.{piece_of, paints_of as paints_in, IsPlain, IsFlatPaint};
-ghost use Rattle.std.specs.List.{All};
+ghost use Rattle.lot_comp.specs.Piece.{piece_of, paints_of as paints_in, IsUnmasked};
 ghost use Rattle.lot_refs.specs.Linked.{layers_of};
 ghost use Rattle.lot_types.specs.WellFormed.{HasKindValues, IsBuiltKind};
 
@@ -31,7 +30,7 @@ pub fn piece<L: Ledger>(
     requires comp { c < length d.now.comps }
     requires layer { l < length (layers_of d.now c) }
     ensures value { IfOk result (λ p. piece_of d.now c l t ≡ Some p) }
-    ensures plain { IfOk result (λ p. IsPlain p) }
+    ensures unmasked { IfOk result (λ p. IsUnmasked p) }
     ensures counted { steps.new ≡ steps.old + 1 }
 {
     let matrix = full_of(alloc, d, c, l, t);
@@ -52,7 +51,7 @@ pub fn piece_with<L: Ledger>(
     requires layer { l < length (layers_of d.now c) }
     requires matrix { full_matrix d.now c l t ≡ Some matrix.now }
     ensures value { IfOk result (λ p. piece_of d.now c l t ≡ Some p) }
-    ensures plain { IfOk result (λ p. IsPlain p) }
+    ensures unmasked { IfOk result (λ p. IsUnmasked p) }
     ensures counted { steps.new ≡ steps.old + 1 }
 {
     evaluated(alloc, d, c, l, t, Ok(*matrix), steps)
@@ -73,7 +72,7 @@ fn evaluated<L: Ledger>(
     requires layer { l < length (layers_of d.now c) }
     requires matrix { IfOk matrix (λ m. full_matrix d.now c l t ≡ Some m) }
     ensures value { IfOk result (λ p. piece_of d.now c l t ≡ Some p) }
-    ensures plain { IfOk result (λ p. IsPlain p) }
+    ensures unmasked { IfOk result (λ p. IsUnmasked p) }
     ensures counted { steps.new ≡ steps.old + 1 }
 {
     steps.tick();
@@ -97,7 +96,6 @@ fn paints_of(alloc: Global, d: &Doc, kind: &LayerKind, t: Time) -> Result<Seq<Pa
     requires built { IsBuiltKind kind.now }
     requires values { HasKindValues d.now kind.now }
     ensures value { IfOk result (λ paints. paints_in d.now t kind.now ≡ Some paints) }
-    ensures flat { IfOk result (λ paints. All IsFlatPaint paints) }
 {
     match kind {
         LayerKind::Solid { w, h, rgb } => {

@@ -33,7 +33,8 @@ pub fn full_matrices(alloc: Global, d: &Linked, c: u32, t: Time) -> Result<Seq<M
 fn make_all(alloc: Global, d: &Linked, c: u32, t: Time) -> Result<Vec<Option<Matrix>>, Memory>
     requires { c < length d.now.comps }
     ensures full { IfOk result (λ made. AreFullIfMade d.now c t made.items) }
-    ensures made { IfOk result (λ made. (l : ℕ) → l < length made.items → IsMade made.items (Some l)) }
+    ensures made { IfOk result (λ made.
+        (l : ℕ) → l < length made.items → IsMade made.items (Some l)) }
 {
     let n = layer_count(d, c);
     let mut made = vec![in alloc; None; n as usize]?;

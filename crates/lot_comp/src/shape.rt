@@ -1,10 +1,8 @@
 //! The paints of shape layers.
 ghost use Rattle.std.specs.Prelude.{◌≡◌, Some, length, map, reverse, IfOk};
 ghost use Rattle.std.specs.List.{All};
-ghost use Rattle.lot_comp.specs.Piece.{IsFlatPaint};
 ghost use Rattle.lot_comp.specs.Shape.{style_paint, shape_paints as paints_in};
 ghost use Rattle.lot_group.specs.Collected.{LeadsToStyle};
-ghost use Rattle.lot_types.specs.Flat.{IsFlat};
 ghost use Rattle.lot_types.specs.Items.{AreItemsOf};
 ghost use Rattle.lot_types.specs.Painting.{IsWithin};
 
@@ -24,7 +22,6 @@ pub(crate) fn shape_paints(
 ) -> Result<Seq<Paint>, Memory>
     requires { AreItemsOf d.now items.now }
     ensures value { IfOk result (λ paints. paints_in d.now t items.now ≡ Some paints) }
-    ensures flat { IfOk result (λ paints. All IsFlatPaint paints) }
 {
     let found = collect(alloc, d, items, t)?;
     paint_styles(alloc, d, items, &found, t)
@@ -42,7 +39,6 @@ fn paint_styles(
     requires styles { All (λ at. LeadsToStyle d.now items.now at.place) found.now.styles }
     ensures value { IfOk result (λ paints. map Some paints
         ≡ map (style_paint d.now t items.now found.now.leaves) (reverse found.now.styles)) }
-    ensures flat { IfOk result (λ paints. All IsFlatPaint paints) }
 {
     let styles = found.styles.items();
     let mut paints = Seq::with_capacity(alloc, styles.len())?;
@@ -66,7 +62,6 @@ fn paint_style(
     requires within { IsWithin (length leaves.now) at.now }
     requires style { LeadsToStyle d.now items.now at.now.place }
     ensures value { IfOk result (λ p. style_paint d.now t items.now leaves.now at.now ≡ Some p) }
-    ensures flat { IfOk result (λ p. IsFlat p.ink) }
 {
     let style = item_at(items, at.place.items());
     paint_of(alloc, d, style, at, leaves, t)

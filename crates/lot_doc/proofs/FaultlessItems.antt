@@ -16,13 +16,15 @@ use Rattle.lot_read.specs.Transform.{hundred_per_cent}
 use Rattle.lot_read.proofs.Sound.{good_sound, bad_sound, if_sound, row_sound, also_sound, then_sound, needed_sound, optional_sound, maybe_sound, object_sound, list_sound}
 use Rattle.lot_read.proofs.SoundRows.{needed_property_sound}
 use Rattle.lot_read.proofs.SoundTransform.{scalar_or_sound, transform_rows_sound}
-use Rattle.lot_read.proofs.SoundValues.{number_sound, flag_sound, whole_sound, scalar_sound, vector_sound, color_sound, bezier_sound}
+use Rattle.lot_read.proofs.SoundValues.{number_sound, flag_sound, whole_sound, scalar_sound, vector_sound, color_sound, bezier_sound, gradient_sound}
 use Rattle.lot_doc.specs.declared.item_type.ItemType.{ItemType}
 use Rattle.lot_doc.specs.declared.item_type.ItemType.TheVariants as type
+use Rattle.lot_doc.specs.Gradient.{max_stops, colors_rows, stops_rows, needed_stops, base_gradient_rows, gradient_fill_rows, gradient_stroke_rows}
 use Rattle.lot_doc.specs.Item.{transform_item_rows, group_rows, typed_rows, item_rows, item_within, item}
 use Rattle.lot_doc.specs.ItemHead.{type_named, type_or_fault, item_type, head_rows}
 use Rattle.lot_doc.specs.Shape.{rectangle_rows, ellipse_rows, spokes_rows, inner_radius, radii_rows, star_kind, polystar_rows, path_rows}
-use Rattle.lot_doc.specs.Style.{fill_rows, dash_kind_named, dash_kind_or_fault, dash_kind, dash_rows, default_miter, line_rows, stroke_rows}
+use Rattle.lot_doc.specs.Style.{fill_rule, fill_rows, dash_kind_named, dash_kind_or_fault, dash_kind, dash_rows, default_miter, line_rows, stroke_rows}
+use Rattle.lot_doc.specs.Trim.{trim_rows}
 use Rattle.lot_doc.proofs.FaultlessFeatures.{normal_blend_sound}
 
 type_or_fault_sound : (at : List Step) (ty : Option ItemType) → IsSound (type_or_fault at ty)
@@ -105,6 +107,9 @@ path_sound names at m =
     (maybe_sound (codes "d") (number_sound any) at m)
 
 -- Styles.
+fill_rule_sound : RowsAreSound fill_rule
+fill_rule_sound at m = optional_sound (codes "r") 1 (whole_sound 1 2) at m
+
 fill_sound : (names : Names) → RowsAreSound (fill_rows names)
 unfolding fill_rows
 fill_sound names at m =
@@ -112,7 +117,7 @@ fill_sound names at m =
     (head_sound at m))
     (needed_property_sound kind.Color color_sound names (codes "c") at m))
     (scalar_or_sound hundred_per_cent names (codes "o") at m))
-    (optional_sound (codes "r") 1 (whole_sound 1 2) at m)
+    (fill_rule_sound at m)
 
 dash_kind_or_fault_sound : (at : List Step) (n : Option DashKind) → IsSound (dash_kind_or_fault at n)
 dash_kind_or_fault_sound at (Some n) = good_sound n
@@ -152,6 +157,60 @@ stroke_sound names at m =
     (scalar_or_sound hundred_per_cent names (codes "o") at m))
     (line_sound names at m)
 
+-- Gradients.
+colors_sound : (names : Names) (p : ℕ) → RowsAreSound (colors_rows names p)
+unfolding colors_rows
+colors_sound names p at m =
+    row_sound (good_sound _) (needed_property_sound (kind.Gradient p) (gradient_sound p) names (codes "k") at m)
+
+stops_sound : (names : Names) → RowsAreSound (stops_rows names)
+unfolding stops_rows
+stops_sound names at m =
+    then_sound _ (needed_sound (codes "p") (whole_sound 1 max_stops) at m) (λ p. colors_sound names p at m)
+
+needed_stops_sound : (names : Names) → RowsAreSound (needed_stops names)
+unfolding needed_stops
+needed_stops_sound names at m = needed_sound (codes "g") (object_sound (stops_sound names)) at m
+
+base_gradient_sound : (names : Names) → RowsAreSound (base_gradient_rows names)
+unfolding base_gradient_rows
+base_gradient_sound names at m =
+    row_sound (row_sound (row_sound (row_sound (row_sound (row_sound (row_sound (good_sound _)
+    (scalar_or_sound hundred_per_cent names (codes "o") at m))
+    (needed_property_sound kind.Vector vector_sound names (codes "s") at m))
+    (needed_property_sound kind.Vector vector_sound names (codes "e") at m))
+    (optional_sound (codes "t") 1 (whole_sound 1 2) at m))
+    (needed_stops_sound names at m))
+    (scalar_or_sound (pos 0) names (codes "h") at m))
+    (scalar_or_sound (pos 0) names (codes "a") at m)
+
+gradient_fill_sound : (names : Names) → RowsAreSound (gradient_fill_rows names)
+unfolding gradient_fill_rows
+gradient_fill_sound names at m =
+    row_sound (row_sound (row_sound (good_sound _)
+    (head_sound at m))
+    (base_gradient_sound names at m))
+    (fill_rule_sound at m)
+
+gradient_stroke_sound : (names : Names) → RowsAreSound (gradient_stroke_rows names)
+unfolding gradient_stroke_rows
+gradient_stroke_sound names at m =
+    row_sound (row_sound (row_sound (good_sound _)
+    (head_sound at m))
+    (base_gradient_sound names at m))
+    (line_sound names at m)
+
+-- Trims.
+trim_sound : (names : Names) → RowsAreSound (trim_rows names)
+unfolding trim_rows
+trim_sound names at m =
+    row_sound (row_sound (row_sound (row_sound (row_sound (good_sound _)
+    (head_sound at m))
+    (scalar_or_sound (pos 0) names (codes "s") at m))
+    (scalar_or_sound hundred_per_cent names (codes "e") at m))
+    (scalar_or_sound (pos 0) names (codes "o") at m))
+    (optional_sound (codes "m") 1 (whole_sound 1 2) at m)
+
 -- Items.
 transform_item_sound : (names : Names) → RowsAreSound (transform_item_rows names)
 unfolding transform_item_rows
@@ -172,6 +231,9 @@ typed_sound names sound type.Polystar at m = polystar_sound names at m
 typed_sound names sound type.Path at m = path_sound names at m
 typed_sound names sound type.Fill at m = fill_sound names at m
 typed_sound names sound type.Stroke at m = stroke_sound names at m
+typed_sound names sound type.GradientFill at m = gradient_fill_sound names at m
+typed_sound names sound type.GradientStroke at m = gradient_stroke_sound names at m
+typed_sound names sound type.Trim at m = trim_sound names at m
 typed_sound names sound type.Transform at m = transform_item_sound names at m
 
 item_rows_sound : (names : Names) {inner : Reader Item} → ReadsSoundly inner → RowsAreSound (item_rows names inner)

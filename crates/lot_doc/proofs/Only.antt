@@ -1,12 +1,12 @@
 -- Each word of the tables keeps that every value which is found has a property.
-use Rattle.std.proofs.Common.{◌≡◌, ℕ, ℤ, ◌+◌, ◌≤◌, Bool, true, false, List, [], ◌∷◌, Option, Some, None, length, nat_lt, refl, arith, if◌then◌else◌}
+use Rattle.std.proofs.Common.{◌≡◌, ℕ, ℤ, ◌+◌, ◌≤◌, Bool, true, false, List, [], ◌∷◌, Option, Some, None, length, nat_le, nat_lt, ◌&&◌, refl, arith, if◌then◌else◌}
 use Rattle.std.specs.Bool.{⊤}
 use Rattle.std.specs.Option.{IfSome}
 use Rattle.std.specs.List.{All}
-use Rattle.std.proofs.lemmas.Bool.{ltb-false}
+use Rattle.std.proofs.lemmas.Bool.{leb-true, ltb-false}
 use Rattle.std.proofs.lemmas.List.Elements.{All-nil, All-cons}
 use Rattle.lot_types.specs.declared.fault.FaultCode.{FaultCode}
-use Rattle.lot_types.specs.declared.fault.FaultCode.TheVariants.{Missing, Kind, Range, TooMany}
+use Rattle.lot_types.specs.declared.fault.FaultCode.TheVariants.{Missing, Kind, Range, TooMany, Value}
 use Rattle.lot_json.specs.declared.tree.number.Number.{Number}
 use Rattle.lot_json.specs.declared.tree.number.Number.TheVariants.{Micro, Beyond}
 use Rattle.lot_json.specs.declared.tree.json.Json.{Json, out-Json}
@@ -15,8 +15,9 @@ use Rattle.lot_json.specs.declared.tree.pointer.Step.{Step}
 use Rattle.lot_json.specs.Lookup.{member}
 use Rattle.lot_read.specs.Findings.{Findings, Reader, Row, Pairs, under, item, good, bad, ◌>>=◌, ◌⊛◌, ◌also◌, ◌then◌, ◌on◌}
 use Rattle.lot_read.specs.Lists.{each, at_most, list}
-use Rattle.lot_read.specs.Number.{in_range, number}
+use Rattle.lot_read.specs.Number.{any, in_range, number}
 use Rattle.lot_read.specs.Rows.{needed, optional, object}
+use Rattle.lot_read.specs.Whole.{whole_number, within, allowed, allowed_or_refused, whole}
 
 -- The value, if there is one, has the property.
 pub record GivesOnly {A : Type 0} (P : A → Type 0) (found : Findings A) : Type 0 where
@@ -139,6 +140,22 @@ number_only fits at j =
       | tree.Number n ↦ in_range_only fits at n
       | _ ↦ bad_only Kind at
     ]
+
+-- A whole number is not below the least of its range.
+within_only : (at : List Step) (low n : ℕ) (above below : Bool) → nat_le low n ≡ above
+    → GivesOnly (λ k. low ≤ k) (allowed_or_refused at (if above && below then Some n else None))
+within_only at low n true true e = good_only n (leb-true low n e)
+within_only at low n true false e = bad_only Value at
+within_only at low n false below e = bad_only Value at
+
+allowed_only : (at : List Step) (low high : ℕ) (n : Option ℕ) → GivesOnly (λ k. low ≤ k) (allowed_or_refused at (n >>= within low high))
+allowed_only at low high (Some n) = within_only at low n (nat_le low n) (nat_le n high) refl
+allowed_only at low high None = bad_only Value at
+
+pub whole_only : (low high : ℕ) → ReadsOnly (λ n. low ≤ n) (whole low high)
+unfolding whole
+whole_only low high at j =
+    then_only (number any at j) (λ (z : ℤ). allowed_or_refused at (allowed low high z)) (λ z. allowed_only at low high (whole_number z))
 
 -- A list has at most as many items as it may have, and each of them has the property.
 abbrev pub AreFew : {A : Type 0} → ℕ → (A → Type 0) → List A → Type 0

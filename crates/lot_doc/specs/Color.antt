@@ -2,32 +2,15 @@
 use Rattle.std.specs.Prelude.{◌==◌, ℕ, ◌*◌, ◌+◌, ◌-◌, ◌&&◌, nat_le, List, [], ◌∷◌, Option, Some, None, if◌then◌else◌}
 use Rattle.lot_types.specs.declared.fault.FaultCode.TheVariants.{Kind, Value}
 use Rattle.lot_types.specs.declared.rgb.Rgb.{Rgb}
+use Rattle.lot_json.specs.Bytes.{digit_0, digit_9, upper_a, upper_f, lower_a, lower_f}
 use Rattle.lot_json.specs.declared.tree.json.Json.{out-Json}
 use Rattle.lot_json.specs.declared.tree.json.Json.TheOpen as tree
 use Rattle.lot_json.specs.declared.tree.pointer.Step.{Step}
 use Rattle.lot_read.specs.Findings.{Findings, Reader, good, bad, ◌>>=◌}
 
--- The bytes of '#', '0', '9', 'A', 'F', 'a' and 'f'.
+-- The byte of '#'.
 abbrev pub hash : ℕ
 hash = 35
-
-abbrev pub digit_0 : ℕ
-digit_0 = 48
-
-abbrev pub digit_9 : ℕ
-digit_9 = 57
-
-abbrev pub upper_a : ℕ
-upper_a = 65
-
-abbrev pub upper_f : ℕ
-upper_f = 70
-
-abbrev pub lower_a : ℕ
-lower_a = 97
-
-abbrev pub lower_f : ℕ
-lower_f = 102
 
 -- A hexadecimal digit of either case.
 abbrev pub hex_digit : ℕ → Option ℕ

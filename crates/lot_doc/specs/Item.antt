@@ -12,9 +12,11 @@ use Rattle.lot_read.specs.SlotNames.{Names}
 use Rattle.lot_read.specs.Transform.{transform_rows}
 use Rattle.lot_doc.specs.declared.item_type.ItemType.{ItemType}
 use Rattle.lot_doc.specs.declared.item_type.ItemType.TheVariants as type
+use Rattle.lot_doc.specs.Gradient.{gradient_fill_rows, gradient_stroke_rows}
 use Rattle.lot_doc.specs.ItemHead.{item_type, head_rows}
 use Rattle.lot_doc.specs.Shape.{rectangle_rows, ellipse_rows, polystar_rows, path_rows}
 use Rattle.lot_doc.specs.Style.{fill_rows, stroke_rows}
+use Rattle.lot_doc.specs.Trim.{trim_rows}
 
 -- A transform, whose members stand in the item itself.
 unfoldable pub transform_item_rows : Names → Row Item
@@ -37,6 +39,9 @@ typed_rows names inner type.Polystar at m = polystar_rows names at m
 typed_rows names inner type.Path at m = path_rows names at m
 typed_rows names inner type.Fill at m = fill_rows names at m
 typed_rows names inner type.Stroke at m = stroke_rows names at m
+typed_rows names inner type.GradientFill at m = gradient_fill_rows names at m
+typed_rows names inner type.GradientStroke at m = gradient_stroke_rows names at m
+typed_rows names inner type.Trim at m = trim_rows names at m
 typed_rows names inner type.Transform at m = transform_item_rows names at m
 
 -- An item. After a fault of its type nothing more of it is read.

@@ -9,7 +9,7 @@ use Rattle.lot_read.specs.Findings.{Findings, Reader, Row, good, bad, ◌⊛◌,
 use Rattle.lot_read.specs.Flag.{flag}
 use Rattle.lot_read.specs.Rows.{optional}
 use Rattle.lot_doc.specs.declared.item_type.ItemType.{ItemType}
-use Rattle.lot_doc.specs.declared.item_type.ItemType.TheVariants.{Group, Rectangle, Ellipse, Polystar, Path, Fill, Stroke, Transform}
+use Rattle.lot_doc.specs.declared.item_type.ItemType.TheVariants.{Group, Rectangle, Ellipse, Polystar, Path, Fill, Stroke, GradientFill, GradientStroke, Trim, Transform}
 use Rattle.lot_doc.specs.Feature.{normal_blend}
 
 -- The type of this name. Items of other names are left out, or not built yet.
@@ -22,6 +22,9 @@ type_named name =
     else if bytes_eq name (codes "sh") then Some Path
     else if bytes_eq name (codes "fl") then Some Fill
     else if bytes_eq name (codes "st") then Some Stroke
+    else if bytes_eq name (codes "gf") then Some GradientFill
+    else if bytes_eq name (codes "gs") then Some GradientStroke
+    else if bytes_eq name (codes "tm") then Some Trim
     else if bytes_eq name (codes "tr") then Some Transform
     else None
 

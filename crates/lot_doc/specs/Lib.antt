@@ -1,9 +1,11 @@
 pub mod Color
 pub mod Feature
+pub mod Gradient
 pub mod Item
 pub mod ItemHead
 pub mod Layer
 pub mod Root
 pub mod Shape
 pub mod Style
+pub mod Trim
 pub mod Build

@@ -23,13 +23,17 @@ use Rattle.lot_read.specs.Whole.{whole}
 use Rattle.lot_doc.specs.declared.stroke.Line.{Line}
 use Rattle.lot_doc.specs.ItemHead.{head_rows}
 
+-- The rule by which a point is inside: 1 nonzero, 2 even-odd.
+abbrev pub fill_rule : Row ℕ
+fill_rule at m = optional (codes "r") (whole 1 2) 1 at m
+
 unfoldable pub fill_rows : Names → Row Item
 fill_rows names at m =
     good (λ hidden c o r. Fill hidden c o r)
     ⊛ head_rows at m
     ⊛ needed_property kind.Color color names (codes "c") at m
     ⊛ scalar_or hundred_per_cent names (codes "o") at m
-    ⊛ optional (codes "r") (whole 1 2) 1 at m
+    ⊛ fill_rule at m
 
 -- What a number of a dash pattern is, by its name.
 abbrev pub dash_kind_named : List ℕ → Option DashKind

@@ -1,7 +1,7 @@
 //! The reader of fills.
 ghost use Rattle.lot_read.specs.Members.{RowGives, SameMembers};
 ghost use Rattle.lot_read.specs.SlotNames.{names_in};
-ghost use Rattle.lot_doc.specs.Style.{fill_rows};
+ghost use Rattle.lot_doc.specs.Style.{fill_rule, fill_rows};
 
 use crate::item_head::read_head;
 use lot_read::{
@@ -23,6 +23,14 @@ pub(crate) fn read_fill(names: &SlotNames, members: &mut Members) -> Result<Item
     let hidden = read_head(members)?;
     let c = needed_property(ColorValue, names, "c", members)?;
     let o = scalar_or(hundred_per_cent(), names, "o", members)?;
-    let r = members.optional("r", &RULE, NONZERO)?;
+    let r = read_fill_rule(members)?;
     Ok(Item::Fill { hidden, c, o, r })
+}
+
+/// Reads the rule `r` by which a point is inside, which is `nonzero` where it is absent.
+pub(crate) fn read_fill_rule(members: &mut Members) -> Result<u8, Refusal>
+    ensures gives { RowGives result members.old members.new fill_rule }
+    ensures same { SameMembers members.old members.new }
+{
+    members.optional("r", &RULE, NONZERO)
 }

@@ -17,12 +17,14 @@ ghost use Rattle.lot_doc.specs.Item.{transform_item_rows, group_rows, typed_rows
 
 use crate::ellipse::read_ellipse;
 use crate::fill::read_fill;
+use crate::gradient::{read_gradient_fill, read_gradient_stroke};
 use crate::item_head::read_head;
 use crate::item_type::{ItemType, ItemTypeValue};
 use crate::path::read_path;
 use crate::polystar::read_polystar;
 use crate::rectangle::read_rectangle;
 use crate::stroke::read_stroke;
+use crate::trim::read_trim;
 use lot_json::{Json, JsonMembers, Pointer};
 use lot_read::{MAX_LIST_ITEMS, Members, Reader, Rows, SlotNames, TransformOf, refusal_at};
 use lot_types::{FaultCode, Item, Refusal, Seq, Use};
@@ -171,6 +173,9 @@ fn read_rows(ty: ItemType, names: &SlotNames, members: &mut Members) -> Result<I
         ItemType::Path => read_path(names, members),
         ItemType::Fill => read_fill(names, members),
         ItemType::Stroke => read_stroke(names, members),
+        ItemType::GradientFill => read_gradient_fill(names, members),
+        ItemType::GradientStroke => read_gradient_stroke(names, members),
+        ItemType::Trim => read_trim(names, members),
         ItemType::Transform => read_transform_item(names, members),
         ItemType::Group => unreachable!(),
     }

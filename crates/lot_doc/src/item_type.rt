@@ -16,6 +16,9 @@ pub enum ItemType {
     Path,
     Fill,
     Stroke,
+    GradientFill,
+    GradientStroke,
+    Trim,
     Transform,
 }
 
@@ -65,6 +68,15 @@ fn type_named(name: &str) -> Option<ItemType>
     }
     if name == "st" {
         return Some(ItemType::Stroke);
+    }
+    if name == "gf" {
+        return Some(ItemType::GradientFill);
+    }
+    if name == "gs" {
+        return Some(ItemType::GradientStroke);
+    }
+    if name == "tm" {
+        return Some(ItemType::Trim);
     }
     if name == "tr" {
         return Some(ItemType::Transform);

@@ -12,6 +12,7 @@ mod ellipse;
 mod faultless;
 mod feature;
 mod fill;
+mod gradient;
 mod item;
 mod item_head;
 mod item_type;
@@ -23,6 +24,7 @@ mod rectangle;
 mod root;
 mod running_time;
 mod stroke;
+mod trim;
 
 pub use document::read_doc;
 pub use faultless::faultless_document_has_value;

@@ -20,11 +20,11 @@ const ROUND: u8 = 2;
 /// The members that all strokes have.
 #[derive(Drop)]
 pub(crate) struct Line {
-    w: Prop<Fx>,
-    lc: u8,
-    lj: u8,
-    ml: Fx,
-    d: Seq<Dash>,
+    pub w: Prop<Fx>,
+    pub lc: u8,
+    pub lj: u8,
+    pub ml: Fx,
+    pub d: Seq<Dash>,
 }
 
 /// Reads a stroke: its color `c`, its opacity `o`, which is 100 per cent where it is absent, and its line.
@@ -52,7 +52,7 @@ pub(crate) fn read_stroke(names: &SlotNames, members: &mut Members) -> Result<It
 /// Reads the members that all strokes have: the width `w`, the ends `lc` and the corners `lj`, which are round where
 /// they are absent, the miter limit `ml`, 4, and the dashes `d`, none.
 #[tactic(auto, using(lot_read::proofs::Faults::first_of_prefix), unfolding(crate::specs::Style::line_rows))]
-fn read_line(names: &SlotNames, members: &mut Members) -> Result<Line, Refusal>
+pub(crate) fn read_line(names: &SlotNames, members: &mut Members) -> Result<Line, Refusal>
     ensures gives { RowGives result members.old members.new (line_rows (names_in names.now)) }
     ensures same { SameMembers members.old members.new }
 {

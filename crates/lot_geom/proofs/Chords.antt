@@ -7,15 +7,16 @@ use Rattle.std.proofs.lemmas.Int.{ints}
 use Rattle.lot_num.proofs.Least.{least_is}
 use Rattle.lot_geom.specs.declared.cubic.Cubic.{Cubic}
 use Rattle.lot_types.specs.declared.point.Point.{Point}
-use Rattle.lot_geom.specs.Along.{along, point_after, fraction_of, chords_before, chord_reaches, chords, chord_length, length_until, sum_until, max_chord_length, on_chord, end_of_chords}
+use Rattle.lot_geom.specs.Along.{along, point_after, fraction_of, chords_before, chord_reaches, chords, chord_length, length_until, sum_until, on_chord, end_of_chords}
+use Rattle.lot_geom.specs.Chords.{length_of_chord, length_of_chords, max_chord_length}
 
 pub sum_of_next : (lengths : List ℕ) (k : ℕ) → sum_until lengths k + slice_index lengths k ≡ sum_until lengths (k + 1)
 unfolding sum_until
 sum_of_next lengths k = let next : suc k ≡ k + 1 = omega arith in ap (sum_until lengths) next
 
-pub length_of_next : (c : Cubic) (k : ℕ) → length_until c k + chord_length c k ≡ length_until c (k + 1)
-unfolding length_until
-length_of_next c k = let next : suc k ≡ k + 1 = omega arith in ap (length_until c) next
+pub length_of_next : (c : Cubic) (n k : ℕ) → length_of_chords c n k + length_of_chord c n k ≡ length_of_chords c n (k + 1)
+unfolding length_of_chords
+length_of_next c n k = let next : suc k ≡ k + 1 = omega arith in ap (length_of_chords c n) next
 
 abbrev pub AreShort : List ℕ → Type 0
 AreShort lengths = (k : ℕ) → k < chords → slice_index lengths k ≤ max_chord_length
@@ -30,7 +31,7 @@ sum_small lengths (suc k) short h = omega (arith, sum_small lengths k short (ome
 
 pub same_sums : (c : Cubic) (lengths : List ℕ) (k : ℕ) → AreChords c lengths → k ≤ chords
     → sum_until lengths k ≡ length_until c k
-unfolding sum_until length_until
+unfolding sum_until length_of_chords
 same_sums c lengths zero each h = refl
 same_sums c lengths (suc k) each h = omega (arith, same_sums c lengths k each (omega (arith, h)), each k (omega (arith, h)))
 
@@ -45,7 +46,7 @@ pub record IsMeasured (c : Cubic) (lengths : List ℕ) (total : ℕ) (at : Point
   pub short : (j : ℕ) → j < k → slice_index lengths j ≤ max_chord_length
 
 pub none_measured : (c : Cubic) (lengths : List ℕ) (at : Point) → at ≡ end_of_chords c 0 → IsMeasured c lengths 0 at 0
-unfolding length_until
+unfolding length_of_chords
 none_measured c lengths at start = record {
   sum = refl;
   small = omega arith;
@@ -73,7 +74,7 @@ pub next_measured : (c : Cubic) (lengths : List ℕ) (total x k : ℕ) (at end :
     → x ≡ chord_length c k → x ≤ max_chord_length → end ≡ end_of_chords c (k + 1)
     → IsMeasured c (set lengths k x) (total + x) end (k + 1)
 next_measured c lengths total x k at end within h long short there = record {
-  sum = ap (λ (n : ℕ). n + x) h.sum ∙ ap (λ (n : ℕ). length_until c k + n) long ∙ length_of_next c k;
+  sum = ap (λ (n : ℕ). n + x) h.sum ∙ ap (λ (n : ℕ). length_until c k + n) long ∙ length_of_next c chords k;
   small = omega (arith, h.small, short);
   end = there;
   each = set_next (λ j n. n ≡ chord_length c j) lengths k x within h.each long;

@@ -1,6 +1,9 @@
 pub mod Chords
+pub mod Measured
+pub mod Parameters
 pub mod Limits
 pub mod Sums
+pub mod Translations
 pub mod Turns
 pub mod VertexLists
 pub mod Weights

@@ -21,12 +21,12 @@ zero_plus x = omega (arith, ints)
 plus_zero : (x : ℤ) → x +ℤ pos 0 ≡ x
 plus_zero x = omega (arith, ints)
 
-left_kept : (x y : ℤ) → sum_of_products x one_whole y (pos 0) ≡ x
+pub left_kept : (x y : ℤ) → sum_of_products x one_whole y (pos 0) ≡ x
 left_kept x y =
     ap (λ (z : ℤ). rnd (x *ℤ one_whole +ℤ z) one_whole) (*ℤ-zero y)
     ∙ ap (λ (z : ℤ). rnd z one_whole) (plus_zero (x *ℤ one_whole)) ∙ rnd_of_millionths x
 
-right_kept : (x y : ℤ) → sum_of_products x (pos 0) y one_whole ≡ y
+pub right_kept : (x y : ℤ) → sum_of_products x (pos 0) y one_whole ≡ y
 right_kept x y =
     ap (λ (z : ℤ). rnd (z +ℤ y *ℤ one_whole) one_whole) (*ℤ-zero x)
     ∙ ap (λ (z : ℤ). rnd z one_whole) (zero_plus (y *ℤ one_whole)) ∙ rnd_of_millionths y

@@ -1,10 +1,9 @@
 -- The point at a fraction of the length of a curve, which is measured by 128 chords. It is this project's own.
 use Rattle.std.specs.Prelude.{ℕ, ℤ, List, slice_index, pos, zero, suc, ◌+◌, ◌-◌, ◌*◌, ◌^◌, ◌==◌, Bool, nat_le, int_lt, unsigned_abs, ◌≤ℤ◌, ◌<ℤ◌, ◌+ℤ◌, ◌-ℤ◌, ◌*ℤ◌, if◌then◌else◌}
 use Rattle.lot_num.specs.Least.{least}
-use Rattle.lot_num.specs.Root.{root}
 use Rattle.lot_num.specs.Round.{rnd, limit}
 use Rattle.lot_types.specs.declared.point.Point.{Point}
-use Rattle.lot_geom.specs.Cubic.{curve_point}
+use Rattle.lot_geom.specs.Chords.{chord_end, length_of_chord, length_of_chords, max_chord_length}
 use Rattle.lot_geom.specs.declared.cubic.Cubic.{Cubic}
 
 abbrev pub chords : ℕ
@@ -12,23 +11,15 @@ chords = 128
 
 -- Where the first k chords end.
 abbrev pub end_of_chords : Cubic → ℕ → Point
-end_of_chords c k = curve_point c k chords
-
-abbrev pub square_of : ℤ → ℕ
-square_of z = unsigned_abs z * unsigned_abs z
-
--- The distance of two points, rounded down.
-unfoldable pub distance : Point → Point → ℕ
-distance p q = root (square_of (q.x -ℤ p.x) + square_of (q.y -ℤ p.y))
+end_of_chords c k = chord_end c chords k
 
 -- The length of the chord after the first k.
 abbrev pub chord_length : Cubic → ℕ → ℕ
-chord_length c k = distance (end_of_chords c k) (end_of_chords c (k + 1))
+chord_length c k = length_of_chord c chords k
 
 -- The length of the first k chords.
-unfoldable pub length_until : Cubic → ℕ → ℕ
-length_until c zero = 0
-length_until c (suc k) = length_until c k + chord_length c k
+abbrev pub length_until : Cubic → ℕ → ℕ
+length_until c k = length_of_chords c chords k
 
 -- Until the end of the chord after the first k there are f millionths of the whole length, or more.
 abbrev pub chord_reaches : Cubic → ℕ → ℕ → Bool
@@ -61,13 +52,10 @@ point_after c f k =
 unfoldable pub along : Cubic → ℤ → Point
 along c f = point_after c (fraction_of f) (chords_before c (fraction_of f))
 
--- What the code keeps of the chords: the sum of the first k numbers of a list, and a bound of each.
+-- What the code keeps of the chords: the sum of the first k numbers of a list.
 unfoldable pub sum_until : List ℕ → ℕ → ℕ
 sum_until lengths zero = 0
 sum_until lengths (suc k) = sum_until lengths k + slice_index lengths k
-
-abbrev pub max_chord_length : ℕ
-max_chord_length = 3 * 10 ^ 13
 
 -- `passed` millionths are a part of the length of a chord.
 pub record IsPassed (passed whole : ℤ) : Type 0 where

@@ -1,7 +1,7 @@
 -- Affine maps of the plane, after SVG 1.1, "The transform attribute", and the Lottie Specification 1.0, "Transform".
 -- The y axis points down. The rounding, the limits and the sense of the skew are this project's own: the result of each
 -- formula is limited once.
-use Rattle.std.specs.Prelude.{ℤ, pos, neg_ℤ, ◌^◌, ◌+ℤ◌, ◌*ℤ◌, if◌then◌else◌}
+use Rattle.std.specs.Prelude.{ℤ, pos, neg_ℤ, ◌^◌, ◌+ℤ◌, ◌*ℤ◌, Bool, ◌&&◌, if◌then◌else◌}
 use Rattle.std.specs.Ordering.{int_eq}
 use Rattle.lot_num.specs.Round.{rnd, limit}
 use Rattle.lot_num.specs.Angle.{sine, cosine, tangent}
@@ -41,6 +41,10 @@ identity = record { a = one_whole; b = pos 0; c = pos 0; d = one_whole; e = pos 
 -- The map that moves each point by an offset.
 abbrev pub translation : Point → Matrix
 translation by = record { a = one_whole; b = pos 0; c = pos 0; d = one_whole; e = by.x; f = by.y }
+
+-- Whether a map moves each point by an offset.
+abbrev pub is_translation : Matrix → Bool
+is_translation m = int_eq m.a one_whole && int_eq m.b (pos 0) && int_eq m.c (pos 0) && int_eq m.d one_whole
 
 -- The map that scales by per cents, in millionths.
 abbrev pub scaling : Point → Matrix

@@ -2,15 +2,17 @@
 
 ghost use Rattle.std.specs.Prelude.{◌≡◌, ◌+◌, ◌*◌, ◌^◌, ◌<◌, ◌≤◌, ◌+ℤ◌, ◌-ℤ◌, ◌*ℤ◌, ℕ, slice_index, pos, unsigned_abs};
 ghost use Rattle.lot_num.specs.Round.{limit, rnd};
-ghost use Rattle.lot_geom.specs.Along.{along as along_in, distance as distance_in, square_of as square_in, chord_length, max_chord_length, length_until, sum_until, chords, end_of_chords, on_chord as on_chord_in, fraction_of as fraction_in, IsPassed};
+ghost use Rattle.lot_geom.specs.Along.{along as along_in, chord_length, length_until, sum_until, chords, on_chord as on_chord_in, fraction_of as fraction_in, IsPassed};
+ghost use Rattle.lot_geom.specs.Chords.{max_chord_length};
 
-use crate::cubic::{Cubic, point_at};
+use crate::chord::{chord_end, pass_chord};
+use crate::cubic::Cubic;
 use crate::number::limited;
-use lot_num::{isqrt, rnd_div};
+use lot_num::rnd_div;
 use lot_types::{Fx, Point};
 
 /// The number of chords by which a curve is measured.
-const CHORDS: usize = 128;
+const CHORDS: u32 = 128;
 
 /// One, in millionths.
 const ONE: i64 = 1_000_000;
@@ -24,13 +26,13 @@ pub fn along(c: &Cubic, f: i64) -> Point
     ensures { result ≡ along_in c.now f }
 {
     let f = fraction_of(f);
-    let mut lengths = [0; CHORDS];
+    let mut lengths = [0; CHORDS as usize];
     let total = measure(c, &mut lengths);
     let goal = f as u128 * total as u128;
     let (k, before) = first_reaching(&lengths, goal);
     let passed = goal - ONE as u128 * before as u128;
-    let (p, q) = (chord_end(c, k), chord_end(c, k + 1));
-    on_chord(p, q, lengths[k], passed)
+    let (p, q) = (chord_end(c, CHORDS, k), chord_end(c, CHORDS, k + 1));
+    on_chord(p, q, lengths[k as usize], passed)
 }
 
 /// A fraction in millionths, limited to 0 to 1.
@@ -42,38 +44,25 @@ fn fraction_of(f: i64) -> u64
 }
 
 /// Fills `lengths` with the lengths of the chords, in millionths of a pixel, and returns their sum.
-fn measure(c: &Cubic, lengths: &mut [u64; CHORDS]) -> u64
+fn measure(c: &Cubic, lengths: &mut [u64; CHORDS as usize]) -> u64
     ensures each { (k : ℕ) → k < chords → slice_index lengths.new k ≡ chord_length c.now k }
     ensures short { (k : ℕ) → k < chords → slice_index lengths.new k ≤ max_chord_length }
     ensures total { result ≡ length_until c.now chords }
     ensures small { result ≤ chords * max_chord_length }
 {
     let mut total = 0;
-    let mut at = chord_end(c, 0);
+    let mut at = chord_end(c, CHORDS, 0);
     for k in 0..CHORDS {
-        let length = pass_chord(c, k, &mut at);
-        lengths[k] = length;
+        let length = pass_chord(c, CHORDS, k, &mut at);
+        lengths[k as usize] = length;
         total += length;
     }
     total
 }
 
-/// Moves `at` from the start to the end of the chord after the first `k`, and returns the length of that chord.
-fn pass_chord(c: &Cubic, k: usize, at: &mut Point) -> u64
-    requires within { k < chords }
-    requires start { at.old ≡ end_of_chords c.now k }
-    ensures length { result ≡ chord_length c.now k }
-    ensures short { result ≤ max_chord_length }
-    ensures end { at.new ≡ end_of_chords c.now (k + 1) }
-{
-    let start = *at;
-    *at = chord_end(c, k + 1);
-    distance(start, *at)
-}
-
 /// The first chord at whose end `goal` is reached, in millionths of the unit of `lengths`, and the length of those
 /// before it.
-fn first_reaching(lengths: &[u64; CHORDS], goal: u128) -> (usize, u64)
+fn first_reaching(lengths: &[u64; CHORDS as usize], goal: u128) -> (u32, u64)
     requires short { (k : ℕ) → k < chords → slice_index lengths.now k ≤ max_chord_length }
     requires reached { goal ≤ 10 ^ 6 * sum_until lengths.now chords }
     ensures within { result.0 < chords }
@@ -85,36 +74,11 @@ fn first_reaching(lengths: &[u64; CHORDS], goal: u128) -> (usize, u64)
     for (k, length) in lengths.iter().enumerate() {
         let end = before + length;
         if goal <= ONE as u128 * end as u128 {
-            return (k, before);
+            return (k as u32, before);
         }
         before = end;
     }
     unreachable!()
-}
-
-/// Where the first `k` chords end.
-fn chord_end(c: &Cubic, k: usize) -> Point
-    requires { k ≤ chords }
-    ensures { result ≡ end_of_chords c.now k }
-{
-    point_at(c, k as u32, CHORDS as u32)
-}
-
-/// The distance of two points, rounded down.
-fn distance(p: Point, q: Point) -> u64
-    ensures value { result ≡ distance_in p q }
-    ensures small { result ≤ max_chord_length }
-{
-    isqrt(square_between(p.x, q.x) + square_between(p.y, q.y))
-}
-
-/// The square of the difference of two numbers.
-fn square_between(x: Fx, y: Fx) -> u128
-    ensures value { result ≡ square_in (y -ℤ x) }
-    ensures small { result ≤ 4 * 10 ^ 26 }
-{
-    let size = (y.get() - x.get()).unsigned_abs() as u128;
-    size * size
 }
 
 /// The point of the line from `p` to `q` at `passed` millionths of units of its length.

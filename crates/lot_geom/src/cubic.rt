@@ -18,7 +18,7 @@ pub struct Cubic {
 }
 
 /// The number of parts in which [`split`] counts.
-const GRID_STEPS: u32 = 65_536;
+pub(crate) const GRID_STEPS: u32 = 65_536;
 
 /// The point of a curve at the parameter `k`, counted in `parts`, rounded.
 ///

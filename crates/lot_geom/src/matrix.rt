@@ -5,11 +5,11 @@
 //! range once.
 
 ghost use Rattle.std.specs.Prelude.{◌≡◌, ◌*◌, ◌^◌, ◌≤◌, ◌+ℤ◌, ◌*ℤ◌, pos, unsigned_abs};
-ghost use Rattle.lot_geom.specs.Matrix.{matrix_product, mapped, identity as identity_in, translation as translation_in, scaling as scaling_in, rotation as rotation_in, shear as shear_in, skewed as skewed_in, transform_matrix, sum_of_products as sum_of_products_in};
+ghost use Rattle.lot_geom.specs.Matrix.{matrix_product, mapped, identity as identity_in, translation as translation_in, scaling as scaling_in, rotation as rotation_in, shear as shear_in, skewed as skewed_in, is_translation as is_translation_in, transform_matrix, sum_of_products as sum_of_products_in};
 ghost use Rattle.lot_num.specs.Round.{limit, rnd};
 
 use crate::number::{limited, negated};
-use crate::offset::opposite;
+use crate::offset::{moved, opposite};
 use lot_num::{cos_fx, rnd_div, sin_fx, tan_fx};
 use lot_types::{Fx, Matrix, Point};
 
@@ -40,6 +40,10 @@ pub fn then(m: Matrix, next: Matrix) -> Matrix
 pub fn apply(m: Matrix, p: Point) -> Point
     ensures { result ≡ mapped m p }
 {
+    // Most maps of shapes are translations, which need no division.
+    if is_translation(&m) {
+        return moved(p, Point { x: m.e, y: m.f });
+    }
     Point {
         x: coordinate(p.x, m.a, p.y, m.c, m.e),
         y: coordinate(p.x, m.b, p.y, m.d, m.f),
@@ -59,6 +63,13 @@ pub fn of_transform_values(a: Point, p: Point, s: Point, r: Fx, sk: Fx, sa: Fx) 
     let scaled = then(translation(opposite(a)), scaling(s));
     let turned = rotated(skewed(scaled, sk, sa), r);
     then(turned, translation(p))
+}
+
+/// Whether a map moves each point by an offset.
+fn is_translation(m: &Matrix) -> bool
+    ensures { result ≡ is_translation_in m.now }
+{
+    m.a == Fx::ONE && m.b == Fx::ZERO && m.c == Fx::ZERO && m.d == Fx::ONE
 }
 
 /// The sum of two products, limited to the range.
@@ -120,8 +131,8 @@ fn hundredth(x: Fx) -> Fx
     limited(rnd_div(x.get() as i128, 100))
 }
 
-/// The map that turns by an angle, clockwise where that is positive.
-fn rotation(r: Fx) -> Matrix
+/// The map that turns about the origin by an angle, in millionths of a degree, clockwise where that is positive.
+pub fn rotation(r: Fx) -> Matrix
     ensures { result ≡ rotation_in r }
 {
     let sine = limited(sin_fx(r.get()) as i128);

@@ -17,5 +17,6 @@ pub mod Steps
 pub mod Styles
 pub mod Transforms
 pub mod TrimOrder
+pub mod Trimmed
 pub mod Trims
 pub mod Words

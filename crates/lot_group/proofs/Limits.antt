@@ -1,13 +1,15 @@
 -- What is asked of the items of a list holds of each of them, and of the list of each.
-use Rattle.std.proofs.Common.{◌≡◌, ℕ, ◌<◌, ◌≤◌, true, false, List, [], ◌∷◌, ◌++◌, length, get_or, Some, sym, subst, arith}
+use Rattle.std.proofs.Common.{◌≡◌, ◌∙◌, ℕ, ℤ, Bool, ap, ◌<◌, ◌≤◌, true, false, List, [], ◌∷◌, ◌++◌, length, get_or, Some, sym, subst, arith}
 use Rattle.std.proofs.lemmas.List.Elements.{All-nil, All-cons, All-head, All-tail}
 use Rattle.std.specs.List.{All}
 use Rattle.lot_types.specs.declared.doc.Doc.{Doc}
 use Rattle.lot_types.specs.declared.item.Item.{Item, Item-F, out-Item}
 use Rattle.lot_types.specs.declared.item.Item.TheOpen as item
+use Rattle.lot_types.specs.declared.item.Item.TheVariants.{Trim, outs-Trim}
+use Rattle.lot_types.specs.declared.prop.Prop.{Prop}
 use Rattle.lot_types.specs.declared.transform.Transform.{Transform}
-use Rattle.lot_types.specs.Items.{held, all_items, max_items, FewIn, HasFewItems, ValuesIn, HasOwnValues, BuiltIn, IsBuiltItem, AreItemsOf, kind_of, kind_in, trim}
-use Rattle.lot_types.specs.Slots.{HasValues}
+use Rattle.lot_types.specs.Items.{held, all_items, max_items, FewIn, HasFewItems, ValuesIn, HasOwnValues, AreItemsOf}
+use Rattle.lot_types.specs.Slots.{HasScalar, HasValues}
 use Rattle.lot_group.specs.Group.{transform_in, given_transform}
 use Rattle.lot_group.specs.Place.{list_in, items_of}
 use Rattle.lot_group.proofs.Filters.{Each, all-from}
@@ -59,31 +61,22 @@ pub items-inside : (d : Doc) (xs : List Item) (k : ℕ) (x : Item) → AreItemsO
 items-inside d xs k x h l e =
     let few = of_all_at HasFewItems xs k x h.few_within l e in
     let values = of_all_at (HasOwnValues d) xs k x h.values l e in
-    let built = of_all_at IsBuiltItem xs k x h.built l e in
-    record { few = few_of x few.0; few_within = few.1; values = values.1; built = built.1 }
+    record { few = few_of x few.0; few_within = few.1; values = values.1 }
 
 pub values-at : (d : Doc) (xs : List Item) (k : ℕ) (x : Item) → AreItemsOf d xs → k < length xs →
     x ≡ get_or xs k x → HasOwnValues d x
 values-at d xs k x h l e = (of_all_at (HasOwnValues d) xs k x h.values l e).0
 
--- No item is a trim.
-trim_in : (y : Item-F Item) → BuiltIn y → kind_in y ≡ trim → ⊥
-trim_in (item.Group h it) b k = absurd (cc)
-trim_in (item.Rect h p s r d) b k = absurd (cc)
-trim_in (item.Ellipse h p s d) b k = absurd (cc)
-trim_in (item.Star h sy pt p r or_ os ir is_ d) b k = absurd (cc)
-trim_in (item.Path h ks d) b k = absurd (cc)
-trim_in (item.Fill h c o r) b k = absurd (cc)
-trim_in (item.Stroke h c o w lc lj ml d) b k = absurd (cc)
-trim_in (item.GradientFill h o s e t g n a r) b k = b
-trim_in (item.GradientStroke h o s e t g n a w lc lj ml d) b k = b
-trim_in (item.Trim h s e o m) b k = b
-trim_in (item.Place h ks) b k = absurd (cc)
+-- The members of a trim have values where the item has them.
+trim_values_in : (d : Doc) (z : Bool) (s e o : Prop ℤ) (m : ℕ) (y : Item-F Item) → y ≡ item.Trim z s e o m → ValuesIn d y →
+    HasScalar d s × HasScalar d e × HasScalar d o
+trim_values_in d z s e o m y is v = subst (ValuesIn d) is v
 
-pub no_trim-at : (d : Doc) (xs : List Item) (k : ℕ) (x : Item) → AreItemsOf d xs → k < length xs →
-    x ≡ get_or xs k x → kind_of x ≡ trim → ⊥
-unfolding kind_of IsBuiltItem
-no_trim-at d xs k x h l e t = trim_in (out-Item x) (of_all_at IsBuiltItem xs k x h.built l e).0 t
+pub trim-values : (d : Doc) (x : Item) (z : Bool) (s e o : Prop ℤ) (m : ℕ) → x ≡ Trim z s e o m → HasOwnValues d x →
+    HasScalar d s × HasScalar d e × HasScalar d o
+unfolding HasOwnValues
+trim-values d x z s e o m is v =
+    trim_values_in d z s e o m (out-Item x) (ap out-Item is ∙ outs-Trim z s e o m) v
 
 -- The transform that an item gives has values where the item has them.
 values_in : (d : Doc) (ks : Transform) (y : Item-F Item) → transform_in y ≡ Some ks → ValuesIn d y → HasValues d ks

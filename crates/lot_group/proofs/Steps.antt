@@ -10,17 +10,19 @@ use Rattle.lot_types.specs.declared.item.Item.{Item}
 use Rattle.lot_types.specs.declared.matrix.Matrix.{Matrix}
 use Rattle.lot_types.specs.declared.outline.Outline.{Outline}
 use Rattle.lot_types.specs.declared.painted.Painted.{Painted}
-use Rattle.lot_types.specs.Items.{group, leaf, style, kind_of, is_hidden}
+use Rattle.lot_types.specs.Items.{group, leaf, style, trim, kind_of, is_hidden}
 use Rattle.lot_group.specs.Group.{first_transform, matrix_of_found, opacity_of_found, group_matrix, group_opacity}
 use Rattle.lot_group.specs.Live.{live}
-use Rattle.lot_group.specs.Outlines.{outline_of, own_outline, outlines_of}
+use Rattle.lot_group.specs.Outlines.{outline_of, own_outline, trimmed, outlines_of}
+use Rattle.lot_group.specs.Trim.{trim_value}
 use Rattle.lot_group.specs.Painting.{Painting, paintings_of}
 use Rattle.lot_group.specs.Pass.{OpenGroups, present_painting, maps_of, placed}
 use Rattle.lot_group.specs.Place.{items_of}
 use Rattle.lot_group.specs.Product.{then_both, map_product, map_product_from}
 use Rattle.lot_group.proofs.Filters.{map_same, map-map, Each-from}
 use Rattle.lot_group.proofs.Paints.{lifted}
-use Rattle.lot_group.proofs.Adds.{Adds, adds-leaf, adds-group, adds-style, style_of}
+use Rattle.lot_group.proofs.Adds.{Adds, adds-leaf, adds-trim, adds-group, adds-style, style_of}
+use Rattle.lot_group.proofs.Trimmed.{trimmed-present}
 
 -- One more of a list is mapped in place.
 pub mapped_more : {V : Type 0} (f : V → V) (xs ys : List V) (i : ℕ) (e v : V) → i < length xs →
@@ -193,6 +195,23 @@ module _ (d : Doc) (u : ℤ) (s : Start) (done : List Item) (x : Item) (os os' :
       (ap (map Some) o ∙ (map_push Some os c ∙ ((λ i. g.outlines i ++ sym ce i ∷ []) ∙
       append_assoc (map Some s.outlines) (outlines_of d u done) (own_outline d u x ∷ []))))
       (ap (map Some) m ∙ map_push Some ms identity)
+      (ap (map present_painting) p ∙ sym (append-nil (map present_painting ps)))
+
+  pub takes_trim : (from : ℕ) (left : List Outline) → kind_of x ≡ trim → is_hidden x ≡ false → from ≡ length s.outlines →
+      trim_value d u x (drop from os) ≡ Some left → os' ≡ take from os ++ left → ms' ≡ ms → ps' ≡ ps →
+      Gathered d u s (done ++ x ∷ []) os' ms' ps'
+  takes_trim from left k v fe te o m p =
+      let before : map Some (take from os) ≡ map Some s.outlines =
+      sym (take-map Some from os) ∙ (ap (take from) g.outlines ∙
+      take_at (map Some s.outlines) (outlines_of d u done) from (length-map s.outlines Some ∙ sym fe)) in
+      let here : map Some (drop from os) ≡ outlines_of d u done =
+      sym (drop-map Some from os) ∙ (ap (drop from) g.outlines ∙
+      drop_at (map Some s.outlines) (outlines_of d u done) from (length-map s.outlines Some ∙ sym fe)) in
+      let after : map Some left ≡ trimmed d u x (outlines_of d u done) =
+      sym (trimmed-present d u x (drop from os) left te) ∙ ap (trimmed d u x) here in
+      more (trimmed d u x (outlines_of d u done)) [] [] (adds-trim d u done x k v)
+      (ap (map Some) o ∙ (map-append Some (take from os) left ∙ (λ i. before i ++ after i)))
+      (ap (map Some) m ∙ sym (append-nil (map Some ms)))
       (ap (map present_painting) p ∙ sym (append-nil (map present_painting ps)))
 
   count : length os ≡ length s.outlines + length (outlines_of d u done)

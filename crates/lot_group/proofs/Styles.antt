@@ -6,7 +6,7 @@ use Rattle.std.proofs.lemmas.List.Elements.{All-head, All-tail}
 use Rattle.std.specs.List.{All, slice_get}
 use Rattle.lot_types.specs.declared.doc.Doc.{Doc}
 use Rattle.lot_types.specs.declared.item.Item.{Item}
-use Rattle.lot_types.specs.Items.{is_hidden, is_style, held, all_items, HasOwnValues, IsBuiltItem, AreItemsOf}
+use Rattle.lot_types.specs.Items.{is_hidden, is_style, held, all_items, HasOwnValues, AreItemsOf}
 use Rattle.lot_group.specs.Collected.{LeadsToStyle}
 use Rattle.lot_group.specs.Live.{Entry, inside, within, live, styles}
 use Rattle.lot_group.specs.Painting.{painting, paintings_of}
@@ -93,18 +93,17 @@ live-leads =
     (λ e t l. (t, l)) (live (items_of x)) (live-nonempty (items_of x)) q)))
 
 abbrev Values : Doc → Entry → Type 0
-Values d e = HasOwnValues d e.item × IsBuiltItem e.item
+Values d e = HasOwnValues d e.item
 
 styles-lead : (d : Doc) (xs : List Item) → AreItemsOf d xs →
     Each (λ s. LeadsToStyle d xs s.place) (styles (live xs))
 styles-lead d xs h =
     let all = live xs in
-    let values = Each-both (λ e. HasOwnValues d e.item) (λ e. IsBuiltItem e.item) (Values d) (λ e v b. (v, b)) all
-    (live-all (HasOwnValues d) xs h.values) (live-all IsBuiltItem xs h.built) in
+    let values = live-all (HasOwnValues d) xs h.values in
     let found = Each-both (Leads xs) (Values d) (λ e. Leads xs e × Values d e) (λ e l v. (l, v)) all
     (live-leads xs) values in
     Each-both (λ s. is_style s.item ≡ true) (λ e. Leads xs e × Values d e) (λ s. LeadsToStyle d xs s.place)
-    (λ s k f. record { style = s.item; at = f.0; kind = k; values = f.1.0; built = f.1.1 }) (styles all)
+    (λ s k f. record { style = s.item; at = f.0; kind = k; values = f.1 }) (styles all)
     (filter_passed (λ e. is_style e.item) all)
     (Each-filter (λ e. Leads xs e × Values d e) (λ e. is_style e.item) all found)
 

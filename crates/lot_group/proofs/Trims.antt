@@ -7,16 +7,10 @@ use Rattle.lot_types.specs.declared.item.Item.{Item}
 use Rattle.lot_types.specs.declared.outline.Outline.{Outline}
 use Rattle.lot_group.specs.Live.{Entry, within, leaves, trims, live}
 use Rattle.lot_group.specs.Outlines.{own_outline, trimmed, first_new, chosen, replaced, acts, after_trim, after_trims, outlines_of}
+use Rattle.lot_group.proofs.Trimmed.{trimmed-length}
 use Rattle.lot_group.proofs.Filters.{Each, Each-weaker}
 use Rattle.lot_group.proofs.Places.{Below, At, NonEmpty, covers-later, covers-inner, covers-within, covers-own}
 use Rattle.lot_group.proofs.Live.{self_at}
-
--- A trim leaves an outline of each. All else of `trimmed` is closed to the other proofs.
-pub trimmed-length : (d : Doc) (u : ℤ) (r : Item) (os : List (Option Outline)) →
-    length (trimmed d u r os) ≡ length os
-unfolding trimmed
-trimmed-length d u r [] = refl
-trimmed-length d u r (o ∷ os) = ap (λ (z : ℕ). suc z) (trimmed-length d u r os)
 
 length-replaced : (p : Entry → Bool) (qs : List Entry) (os new : List (Option Outline)) →
     length (replaced p qs os new) ≡ length os

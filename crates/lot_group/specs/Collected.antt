@@ -9,7 +9,7 @@ use Rattle.lot_types.specs.declared.item.Item.{Item}
 use Rattle.lot_types.specs.declared.matrix.Matrix.{Matrix}
 use Rattle.lot_types.specs.declared.outline.Outline.{Outline}
 use Rattle.lot_types.specs.declared.painted.Painted.{Painted}
-use Rattle.lot_types.specs.Items.{is_style, HasOwnValues, IsBuiltItem}
+use Rattle.lot_types.specs.Items.{is_style, HasOwnValues}
 use Rattle.lot_types.specs.Options.{all_present}
 
 -- What a style paints, where its matrix, all its groups and all its maps have values.
@@ -40,4 +40,3 @@ pub record LeadsToStyle (d : Doc) (items : List Item) (place : List ℕ) : Type 
   pub at : item_at items place ≡ Some style
   pub kind : is_style style ≡ true
   pub values : HasOwnValues d style
-  pub built : IsBuiltItem style

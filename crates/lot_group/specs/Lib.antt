@@ -7,4 +7,5 @@ pub mod Pass
 pub mod Place
 pub mod Product
 pub mod Range
+pub mod Trim
 pub mod TrimOrder

@@ -1,11 +1,13 @@
 -- The outlines of the leaves of a list at a time, after their trims.
-use Rattle.std.specs.Prelude.{ℤ, List, [], ◌∷◌, map, drop, Bool, Option, None, option_map, if◌then◌else◌}
+use Rattle.std.specs.Prelude.{ℤ, List, [], ◌∷◌, map, drop, Bool, Option, Some, None, option_map, option_and_then, if◌then◌else◌}
 use Rattle.lot_outline.specs.Leaf.{contours_of}
 use Rattle.lot_prop.specs.Slots.{evaluated}
 use Rattle.lot_types.specs.declared.contour.Contour.{Contour}
 use Rattle.lot_types.specs.declared.doc.Doc.{Doc}
 use Rattle.lot_types.specs.declared.item.Item.{Item}
 use Rattle.lot_types.specs.declared.outline.Outline.{Outline}
+use Rattle.lot_types.specs.Options.{all_present}
+use Rattle.lot_group.specs.Trim.{trim_value}
 use Rattle.lot_group.specs.Live.{Entry, live, leaves, trims, covers}
 
 abbrev pub outline_of : List Contour → Outline
@@ -15,11 +17,15 @@ outline_of contours = record { contours = contours }
 unfoldable pub own_outline : Doc → ℤ → Item → Option Outline
 own_outline d t x = option_map outline_of (contours_of evaluated d x t)
 
--- What a trim leaves of each of the outlines on which it acts. It sees all of them, in order of place.
--- Trims are not evaluated yet: no such outline has a value.
+-- A list of outlines as they replace others. Where there is no list, each of the others has no value.
+abbrev pub in_place_of : List (Option Outline) → Option (List Outline) → List (Option Outline)
+in_place_of os None = map (λ o. None) os
+in_place_of os (Some made) = map Some made
+
+-- What a trim leaves of each of the outlines on which it acts. It sees all of them, in order of place, so that none has
+-- a value where one of them has none.
 unfoldable pub trimmed : Doc → ℤ → Item → List (Option Outline) → List (Option Outline)
-trimmed d t r [] = []
-trimmed d t r (o ∷ os) = None ∷ trimmed d t r os
+trimmed d t r os = in_place_of os (option_and_then (trim_value d t r) (all_present os))
 
 -- The outlines of those leaves that pass a test, in order.
 abbrev pub chosen : (Entry → Bool) → List Entry → List (Option Outline) → List (Option Outline)

@@ -9,6 +9,7 @@ mod group;
 mod pass;
 mod place;
 mod product;
+mod trim;
 
 pub use collected::collect;
 pub use place::item_at;

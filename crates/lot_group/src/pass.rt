@@ -5,14 +5,17 @@ ghost use Rattle.lot_group.specs.Outlines.{outlines_of};
 ghost use Rattle.lot_group.specs.Painting.{paintings_of};
 ghost use Rattle.lot_group.specs.Pass.{present_painting, maps_of, placed};
 ghost use Rattle.lot_group.specs.Product.{map_product};
+ghost use Rattle.lot_group.specs.Trim.{trimmed_by};
 ghost use Rattle.lot_types.specs.declared.matrix.Matrix.{Matrix as TheMatrix};
 ghost use Rattle.lot_types.specs.Items.{AreItemsOf};
 
 use crate::group::{Placement, placement_of};
 use crate::product::{multiply_each, product_from_last};
+use crate::trim::{cut_at, trimmed};
 use lot_geom::identity;
 use lot_outline::contours;
 use lot_prop::Evaluator;
+use lot_trim::TrimCut;
 use lot_types::{Collected, Doc, Fx, Item, Matrix, Memory, Outline, Painted, Seq, Time};
 use std::alloc::Global;
 
@@ -105,7 +108,10 @@ impl Pass {
                 | Item::GradientStroke { .. } => {
                     self.add_style(from, first, k as u32)?;
                 }
-                Item::Trim { .. } => unreachable!(),
+                Item::Trim { s, e, o, m, .. } => {
+                    let cut = cut_at(d, s, e, o, t);
+                    self.trim(from, *m, cut)?;
+                }
                 Item::Place { .. } => {}
             }
         }
@@ -194,6 +200,23 @@ impl Pass {
             groups,
             maps: Seq::of_vec(maps),
         })?;
+        Ok(())
+    }
+
+    /// Trims the outlines from `from` on, those of the list that is visited. Want of memory is the one refusal.
+    fn trim(&mut self, from: usize, mode: u8, cut: TrimCut) -> Result<(), Memory>
+        requires { from ≤ length self.old.outlines.items }
+        ensures outlines { OnOk result (self.new.outlines.items ≡ take from self.old.outlines.items
+            ++ trimmed_by mode cut (drop from self.old.outlines.items)) }
+        ensures maps { self.new.maps.items ≡ self.old.maps.items }
+        ensures styles { self.new.styles.items ≡ self.old.styles.items }
+        ensures place { self.new.place.items ≡ self.old.place.items }
+        ensures matrices { self.new.matrices.items ≡ self.old.matrices.items }
+        ensures opacities { self.new.opacities.items ≡ self.old.opacities.items }
+    {
+        let untrimmed = Seq::of_vec(self.outlines.split_off(from)?);
+        let made = trimmed(self.alloc, &untrimmed, mode, cut)?;
+        self.outlines.append(&mut made.into_vec())?;
         Ok(())
     }
 

@@ -1,3 +1,9 @@
 pub mod Bytes
 pub mod Lengths
+pub mod MergeSteps
+pub mod Merging
+pub mod Order
+pub mod Raised
+pub mod Reached
+pub mod Sorting
 pub mod Styles

@@ -1,4 +1,4 @@
--- What fills and strokes have, and that the other items are no styles that are evaluated.
+-- What the properties of styles have, and that the other items are no styles.
 use Rattle.std.proofs.Common.{◌≡◌, ℕ, ℤ, Bool, true, false, List, subst}
 use Rattle.lot_types.specs.declared.color.Color.{Color}
 use Rattle.lot_types.specs.declared.dash.Dash.{Dash}
@@ -8,8 +8,9 @@ use Rattle.lot_types.specs.declared.item.Item.TheVariants.{Fill, Stroke, Gradien
 use Rattle.lot_types.specs.declared.point.Point.{Point}
 use Rattle.lot_types.specs.declared.prop.Prop.{Prop}
 use Rattle.lot_types.specs.declared.stops.Stops.{Stops}
-use Rattle.lot_types.specs.Items.{ItemKind, kind_of, is_style, is_style_kind, IsBuiltItem, BuiltIn, HasOwnValues, ValuesIn, DashesHaveValues}
-use Rattle.lot_types.specs.Slots.{HasColor, HasScalar}
+use Rattle.lot_types.specs.Items.{ItemKind, kind_of, is_style, is_style_kind, HasOwnValues, ValuesIn, DashesHaveValues}
+use Rattle.lot_paint.specs.Gradient.{HasGradientValues}
+use Rattle.lot_types.specs.Slots.{HasColor, HasScalar, HasVector, HasGradient}
 
 values-Fill : (d : Doc) (x : Item) (z : Bool) (c : Prop Color) (o : Prop ℤ) (r : ℕ) → x ≡ Fill z c o r
     → HasOwnValues d x → HasColor d c × HasScalar d o
@@ -48,20 +49,63 @@ pub dashes-Stroke : (d : Doc) (x : Item) (z : Bool) (c : Prop Color) (o w : Prop
     → x ≡ Stroke z c o w lc lj ml dashes → HasOwnValues d x → DashesHaveValues d dashes
 dashes-Stroke d x z c o w lc lj ml dashes is h = (values-Stroke d x z c o w lc lj ml dashes is h).3
 
+values-GradientFill : (d : Doc) (x : Item) (z : Bool) (o : Prop ℤ) (s k_e : Prop Point) (k : ℕ) (g : Stops)
+    (k_h a : Prop ℤ) (r : ℕ)
+    → x ≡ GradientFill z o s k_e k g k_h a r → HasOwnValues d x
+    → HasScalar d o × HasVector d s × HasVector d k_e × HasGradient d g.k × HasScalar d k_h × HasScalar d a
+unfolding HasOwnValues
+values-GradientFill d x z o s k_e k g k_h a r is h =
+    subst (ValuesIn d) (outs-GradientFill z o s k_e k g k_h a r) (subst (HasOwnValues d) is h)
+
+pub opacity-GradientFill : (d : Doc) (x : Item) (z : Bool) (o : Prop ℤ) (s k_e : Prop Point) (k : ℕ) (g : Stops)
+    (k_h a : Prop ℤ) (r : ℕ)
+    → x ≡ GradientFill z o s k_e k g k_h a r → HasOwnValues d x → HasScalar d o
+opacity-GradientFill d x z o s k_e k g k_h a r is h =
+    (values-GradientFill d x z o s k_e k g k_h a r is h).0
+
+pub gradient-GradientFill : (d : Doc) (x : Item) (z : Bool) (o : Prop ℤ) (s k_e : Prop Point) (k : ℕ) (g : Stops)
+    (k_h a : Prop ℤ) (r : ℕ)
+    → x ≡ GradientFill z o s k_e k g k_h a r → HasOwnValues d x → HasGradientValues d s k_e g k_h a
+gradient-GradientFill d x z o s k_e k g k_h a r is h =
+    let values = values-GradientFill d x z o s k_e k g k_h a r is h in
+    record { start = values.1; end = values.2; stops = values.3; highlight = values.4; angle = values.5 }
+
+values-GradientStroke : (d : Doc) (x : Item) (z : Bool) (o : Prop ℤ) (s k_e : Prop Point) (k : ℕ) (g : Stops)
+    (k_h a w : Prop ℤ) (lc lj : ℕ) (ml : ℤ) (dashes : List Dash)
+    → x ≡ GradientStroke z o s k_e k g k_h a w lc lj ml dashes → HasOwnValues d x
+    → HasScalar d o × HasVector d s × HasVector d k_e × HasGradient d g.k × HasScalar d k_h × HasScalar d a
+    × HasScalar d w × DashesHaveValues d dashes
+unfolding HasOwnValues
+values-GradientStroke d x z o s k_e k g k_h a w lc lj ml dashes is h =
+    subst (ValuesIn d) (outs-GradientStroke z o s k_e k g k_h a w lc lj ml dashes) (subst (HasOwnValues d) is h)
+
+pub opacity-GradientStroke : (d : Doc) (x : Item) (z : Bool) (o : Prop ℤ) (s k_e : Prop Point) (k : ℕ) (g : Stops)
+    (k_h a w : Prop ℤ) (lc lj : ℕ) (ml : ℤ) (dashes : List Dash)
+    → x ≡ GradientStroke z o s k_e k g k_h a w lc lj ml dashes → HasOwnValues d x → HasScalar d o
+opacity-GradientStroke d x z o s k_e k g k_h a w lc lj ml dashes is h =
+    (values-GradientStroke d x z o s k_e k g k_h a w lc lj ml dashes is h).0
+
+pub gradient-GradientStroke : (d : Doc) (x : Item) (z : Bool) (o : Prop ℤ) (s k_e : Prop Point) (k : ℕ) (g : Stops)
+    (k_h a w : Prop ℤ) (lc lj : ℕ) (ml : ℤ) (dashes : List Dash)
+    → x ≡ GradientStroke z o s k_e k g k_h a w lc lj ml dashes → HasOwnValues d x → HasGradientValues d s k_e g k_h a
+gradient-GradientStroke d x z o s k_e k g k_h a w lc lj ml dashes is h =
+    let values = values-GradientStroke d x z o s k_e k g k_h a w lc lj ml dashes is h in
+    record { start = values.1; end = values.2; stops = values.3; highlight = values.4; angle = values.5 }
+
+pub width-GradientStroke : (d : Doc) (x : Item) (z : Bool) (o : Prop ℤ) (s k_e : Prop Point) (k : ℕ) (g : Stops)
+    (k_h a w : Prop ℤ) (lc lj : ℕ) (ml : ℤ) (dashes : List Dash)
+    → x ≡ GradientStroke z o s k_e k g k_h a w lc lj ml dashes → HasOwnValues d x → HasScalar d w
+width-GradientStroke d x z o s k_e k g k_h a w lc lj ml dashes is h =
+    (values-GradientStroke d x z o s k_e k g k_h a w lc lj ml dashes is h).6
+
+pub dashes-GradientStroke : (d : Doc) (x : Item) (z : Bool) (o : Prop ℤ) (s k_e : Prop Point) (k : ℕ) (g : Stops)
+    (k_h a w : Prop ℤ) (lc lj : ℕ) (ml : ℤ) (dashes : List Dash)
+    → x ≡ GradientStroke z o s k_e k g k_h a w lc lj ml dashes → HasOwnValues d x → DashesHaveValues d dashes
+dashes-GradientStroke d x z o s k_e k g k_h a w lc lj ml dashes is h =
+    (values-GradientStroke d x z o s k_e k g k_h a w lc lj ml dashes is h).7
+
 pub no_style : (x : Item) (kind : ItemKind) → kind_of x ≡ kind → is_style_kind kind ≡ false → is_style x ≡ true → ⊥
 unfolding is_style
 no_style x kind is not_style h = absurd (cc)
 
-pub unbuilt-GradientFill : (x : Item) (z : Bool) (o : Prop ℤ) (s k_e : Prop Point) (t : ℕ) (g : Stops) (k_h a : Prop ℤ) (r : ℕ)
-    → x ≡ GradientFill z o s k_e t g k_h a r → IsBuiltItem x → ⊥
-unfolding IsBuiltItem
-unbuilt-GradientFill x z o s k_e t g k_h a r is h =
-    subst BuiltIn (outs-GradientFill z o s k_e t g k_h a r) (subst IsBuiltItem is h)
-
-pub unbuilt-GradientStroke : (x : Item) (z : Bool) (o : Prop ℤ) (s k_e : Prop Point) (t : ℕ) (g : Stops) (k_h a w : Prop ℤ)
-    (lc lj : ℕ) (ml : ℤ) (dashes : List Dash) → x ≡ GradientStroke z o s k_e t g k_h a w lc lj ml dashes → IsBuiltItem x → ⊥
-unfolding IsBuiltItem
-unbuilt-GradientStroke x z o s k_e t g k_h a w lc lj ml dashes is h =
-    subst BuiltIn (outs-GradientStroke z o s k_e t g k_h a w lc lj ml dashes) (subst IsBuiltItem is h)
-
-pub ruleset styles = (color-Fill, opacity-Fill, color-Stroke, opacity-Stroke, width-Stroke, dashes-Stroke, unbuilt-GradientFill, unbuilt-GradientStroke)
+pub ruleset styles = (color-Fill, opacity-Fill, color-Stroke, opacity-Stroke, width-Stroke, dashes-Stroke, opacity-GradientFill, opacity-GradientStroke, width-GradientStroke, dashes-GradientStroke)

@@ -1,6 +1,10 @@
 pub mod Brush
+pub mod Color
 pub mod Contours
 pub mod Dashes
+pub mod Gradient
 pub mod Ink
+pub mod Merging
 pub mod Opacity
 pub mod Paint
+pub mod Stops

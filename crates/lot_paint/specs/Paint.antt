@@ -11,6 +11,7 @@ use Rattle.lot_types.specs.declared.paint.Paint.{Paint}
 use Rattle.lot_types.specs.declared.painted.Painted.{Painted}
 use Rattle.lot_paint.specs.Brush.{fill_brush, stroke_value}
 use Rattle.lot_paint.specs.Contours.{painted_contours}
+use Rattle.lot_paint.specs.Gradient.{gradient_ink}
 use Rattle.lot_paint.specs.Ink.{flat_ink}
 use Rattle.lot_paint.specs.Opacity.{style_opacity}
 
@@ -27,7 +28,7 @@ paint_with at leaves (Some ink) (Some brush) None = None
 paint_with at leaves (Some ink) None opacity = None
 paint_with at leaves None brush opacity = None
 
--- An item that is no style has no paint. Gradients are not evaluated yet.
+-- An item that is no style has no paint.
 abbrev pub paint_in : Doc → ℤ → Painted → List Outline → Item-F Item → Option Paint
 paint_in d t at leaves (item.Group hidden it) = None
 paint_in d t at leaves (item.Rect hidden p s r direction) = None
@@ -38,8 +39,11 @@ paint_in d t at leaves (item.Fill hidden c o r) =
     paint_with at leaves (flat_ink d c t) (Some (fill_brush r)) (style_opacity d o t at.groups)
 paint_in d t at leaves (item.Stroke hidden c o w lc lj ml dashes) =
     paint_with at leaves (flat_ink d c t) (stroke_value d t w lc lj ml dashes) (style_opacity d o t at.groups)
-paint_in d t at leaves (item.GradientFill hidden o s e kind g h a r) = None
-paint_in d t at leaves (item.GradientStroke hidden o s e kind g h a w lc lj ml dashes) = None
+paint_in d t at leaves (item.GradientFill hidden o s e kind g h a r) =
+    paint_with at leaves (gradient_ink d t s e kind g h a) (Some (fill_brush r)) (style_opacity d o t at.groups)
+paint_in d t at leaves (item.GradientStroke hidden o s e kind g h a w lc lj ml dashes) =
+    paint_with at leaves (gradient_ink d t s e kind g h a) (stroke_value d t w lc lj ml dashes)
+    (style_opacity d o t at.groups)
 paint_in d t at leaves (item.Trim hidden s e o m) = None
 paint_in d t at leaves (item.Place hidden ks) = None
 

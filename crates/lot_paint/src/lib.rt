@@ -5,9 +5,14 @@
 #![tactic(auto)]
 
 mod brush;
+mod color;
 mod dashes;
+mod gradient;
 mod ink;
+mod interpolated;
+mod list_stop;
 mod mapped;
+mod merged;
 mod opacity;
 mod paint;
 

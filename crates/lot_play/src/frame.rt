@@ -1,9 +1,8 @@
 //! The frame of a document, as SVG.
 ghost use Rattle.std.specs.Prelude.{◌≡◌, ℕ, ◌+◌, ◌≤◌, ◌<◌, Some, List, ◌∷◌, length, fold, OnOk, IfOk};
-ghost use Rattle.std.specs.List.{All};
 ghost use Rattle.lot_comp.specs.Frame.{frame, nodes, is_visible as visible_at};
 ghost use Rattle.lot_comp.specs.Full.{AreFull, full_matrix, layer_at};
-ghost use Rattle.lot_comp.specs.Piece.{IsPlain, IsFlatPaint};
+ghost use Rattle.lot_comp.specs.Piece.{IsUnmasked};
 ghost use Rattle.lot_play.specs.Picture.{svg_of};
 ghost use Rattle.lot_play.specs.Walk.{after_frame, after_piece};
 ghost use Rattle.lot_refs.specs.Linked.{layers_of};
@@ -122,7 +121,7 @@ fn is_visible(layer: &Layer, t: Time) -> bool
 
 /// Writes a layer without a matte: its group, with its paints in it.
 fn write_piece(w: &mut Writer, p: &Piece) -> Result<(), Memory>
-    requires { IsPlain p.now }
+    requires { IsUnmasked p.now }
     ensures { OnOk result (w.new ≡ after_piece p.now w.old) }
 {
     w.open_layer(None, p)?;
@@ -132,7 +131,6 @@ fn write_piece(w: &mut Writer, p: &Piece) -> Result<(), Memory>
 
 /// Writes paints in order.
 fn write_paints(w: &mut Writer, paints: &[Paint]) -> Result<(), Memory>
-    requires { All IsFlatPaint paints.now }
     ensures { OnOk result (w.new ≡ fold paint w.old paints.now) }
 {
     for p in paints {

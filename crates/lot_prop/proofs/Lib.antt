@@ -1,5 +1,4 @@
 mod LeastSteps
-mod Limits
 mod InForceAt
 mod Timeline
 mod Founds

@@ -74,12 +74,13 @@ fn points_between(
     ensures value { IfOk result (λ made. made ≡ points_in part.now ps.now qs.now) }
     ensures length { IfOk result (λ made. length made ≡ length ps.now) }
 {
+    let progress = part.progress(0);
     let mut made = Seq::with_capacity(alloc, ps.items().len())?;
     for (i, p) in ps.items().iter().enumerate() {
         let q = &qs.items()[i];
         made.push(Point {
-            x: part.eased(0, p.x, q.x),
-            y: part.eased(0, p.y, q.y),
+            x: progress.between(p.x, q.x),
+            y: progress.between(p.y, q.y),
         })?;
     }
     Ok(made)

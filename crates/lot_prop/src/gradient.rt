@@ -75,9 +75,10 @@ fn numbers_between(
     ensures value { IfOk result (λ made. made ≡ numbers_in part.now xs.now ys.now) }
     ensures length { IfOk result (λ made. length made ≡ length xs.now) }
 {
+    let progress = part.progress(0);
     let mut made = Seq::with_capacity(alloc, xs.items().len())?;
     for (i, x) in xs.items().iter().enumerate() {
-        made.push(part.eased(0, *x, ys.items()[i]))?;
+        made.push(progress.between(*x, ys.items()[i]))?;
     }
     Ok(made)
 }

@@ -11,6 +11,7 @@ mod found;
 mod gradient;
 mod part;
 mod position;
+mod progress;
 mod scalar;
 mod transform;
 mod vector;

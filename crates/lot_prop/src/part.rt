@@ -1,16 +1,18 @@
 //! A part of the time between two keyframes, and numbers that change with it.
-ghost use Rattle.std.specs.Prelude.{◌≡◌, ◌<◌, ◌≤◌, ◌*◌, ◌^◌, ◌≤ℤ◌, ◌<ℤ◌, ◌*ℤ◌, pos, unsigned_abs};
+ghost use Rattle.std.specs.Prelude.{◌≡◌, ℤ, ◌<◌, ◌≤◌, ◌^◌, ◌≤ℤ◌, ◌<ℤ◌, unsigned_abs};
 ghost use Rattle.lot_num.specs.Easing.{IsPart, between, height};
-ghost use Rattle.lot_num.specs.Round.{rnd};
 ghost use Rattle.lot_prop.specs.LeastStep.{least_step};
-ghost use Rattle.lot_types.specs.Range.{InRange};
-ghost use Rattle.lot_prop.specs.Eased.{part_at, eased as eased_in, at_fraction as at_fraction_in, component};
+ghost use Rattle.lot_prop.specs.Eased.{part_at, eased as eased_in, component};
 ghost use Rattle.lot_prop.specs.Spatial.{is_spatial as is_spatial_in, is_zero as is_zero_in, on_curve as on_curve_in};
 
+use crate::progress::Progress;
 use lot_geom::{Cubic, along, moved};
-use lot_num::{Handle, clamp_fx, ease, ease_linear, rnd_div};
+use lot_num::{Handle, ease};
 use lot_types::{Ease3, Fx, Key, Point, Time};
 use std::marker::Model;
+
+/// One, in millionths.
+const ONE: i64 = 1_000_000;
 
 /// The part of the time from a keyframe to the next that has passed, `num` of `den`, in millionths of a frame, with the
 /// handles of the easing, and with the tangents of the keyframe in millionths of a pixel.
@@ -53,18 +55,29 @@ impl Part {
         }
     }
 
+    /// How far the component `c` of a value has come, from 0 to 2.
+    pub fn progress(&self, c: usize) -> Progress
+        requires { c < 3 }
+        ensures { (s0 s1 : ℤ) → between s0 s1 result.num result.den ≡ eased_in c self.now s0 s1 }
+    {
+        match &self.ease {
+            None => Progress {
+                num: self.num,
+                den: self.den,
+            },
+            Some((o, i)) => Progress {
+                num: fraction_made(handle(o, c), handle(i, c), self.num, self.den),
+                den: ONE,
+            },
+        }
+    }
+
     /// A number that goes from `s0` to `s1`, as the component `c` of a value, from 0 to 2. The result is limited to the range.
     pub fn eased(&self, c: usize, s0: Fx, s1: Fx) -> Fx
         requires { c < 3 }
         ensures { result ≡ eased_in c self.now s0 s1 }
     {
-        match &self.ease {
-            None => in_range(linear(s0.get(), s1.get(), self.num, self.den)),
-            Some((o, i)) => {
-                let (o, i) = (handle(o, c), handle(i, c));
-                in_range(curved(o, i, s0.get(), s1.get(), self.num, self.den))
-            }
-        }
+        self.progress(c).between(s0, s1)
     }
 
     /// Whether the keyframe has a tangent that is not 0.
@@ -94,27 +107,13 @@ fn is_zero(p: Point) -> bool
     p.x.get() == 0 && p.y.get() == 0
 }
 
-/// The number at the part `num / den` of the line from `s0` to `s1`, limited to the range.
-fn linear(s0: i64, s1: i64, num: i64, den: i64) -> i64
-    requires from { InRange s0 }
-    requires to { InRange s1 }
+/// The fraction of a change that is made at the part `num / den` of the time, by two handles.
+fn fraction_made(o: Handle, i: Handle, num: i64, den: i64) -> i64
     requires part { IsPart num den }
-    ensures value { result ≡ between s0 s1 num den }
-    ensures range { InRange result }
+    ensures value { result ≡ height o.y i.y (least_step o.x i.x num den) }
+    ensures small { unsigned_abs result ≤ 10 ^ 8 }
 {
-    ease_linear(s0, s1, num, den)
-}
-
-/// The number at the part `num / den` of the curve from `s0` to `s1` with two handles, limited to the range.
-fn curved(o: Handle, i: Handle, s0: i64, s1: i64, num: i64, den: i64) -> i64
-    requires from { InRange s0 }
-    requires to { InRange s1 }
-    requires part { IsPart num den }
-    ensures value { result ≡ at_fraction_in s0 s1 (height o.y i.y (least_step o.x i.x num den)) }
-    ensures range { InRange result }
-{
-    let place = ease(o, i, num, den);
-    at_fraction(s0, s1, place.fraction)
+    ease(o, i, num, den).fraction
 }
 
 /// The handle of a component.
@@ -126,36 +125,5 @@ fn handle(handles: &Ease3, c: usize) -> Handle
     Handle {
         x: handles.x[c],
         y: handles.y[c],
-    }
-}
-
-/// The number at a fraction of the change from `s0` to `s1`, limited to the range. The fraction may be below 0 or above 1.
-fn at_fraction(s0: i64, s1: i64, fraction: i64) -> i64
-    requires from { InRange s0 }
-    requires to { InRange s1 }
-    requires fraction { unsigned_abs fraction ≤ 10 ^ 8 }
-    ensures { result ≡ at_fraction_in s0 s1 fraction }
-{
-    clamp_fx(s0 as i128 + fraction_of(s1 - s0, fraction))
-}
-
-/// A fraction of a change, rounded.
-fn fraction_of(change: i64, fraction: i64) -> i128
-    requires change { unsigned_abs change ≤ 2 * 10 ^ 13 }
-    requires fraction { unsigned_abs fraction ≤ 10 ^ 8 }
-    ensures value { result ≡ rnd (change *ℤ fraction) (pos (10 ^ 6)) }
-    ensures small { unsigned_abs result ≤ 2 * 10 ^ 21 }
-{
-    rnd_div(change as i128 * fraction as i128, 1_000_000)
-}
-
-/// A number that is in range.
-fn in_range(v: i64) -> Fx
-    requires { InRange v }
-    ensures { result ≡ v }
-{
-    match Fx::new(v) {
-        Some(x) => x,
-        None => unreachable!(),
     }
 }

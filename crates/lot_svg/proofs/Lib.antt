@@ -2,7 +2,10 @@ pub mod Appends
 pub mod Brushes
 pub mod Contours
 pub mod Dashes
+pub mod Definitions
+pub mod Identifiers
 pub mod InWords
 pub mod Items
 pub mod Order
 pub mod Segments
+pub mod Stops

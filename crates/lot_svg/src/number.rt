@@ -75,6 +75,16 @@ impl Writer {
         self.put_byte(c.b)
     }
 
+    /// Writes an attribute that is a color.
+    #[tactic(auto, using(crate::proofs::Appends::appending), unfolding(crate::specs::Element::attribute))]
+    pub(crate) fn put_color_attribute(&mut self, name: &str, c: Rgb) -> Result<(), Memory>
+        ensures { OnOk result (self.new ≡ append self.old (attribute name.now (color_text c))) }
+    {
+        self.start_attribute(name)?;
+        self.put_color(c)?;
+        self.end_attribute()
+    }
+
     /// Writes two entries of a matrix.
     #[tactic(auto, using(crate::proofs::Appends::appending))]
     fn put_entry_pair(&mut self, x: Fx, y: Fx) -> Result<(), Memory>
@@ -120,8 +130,9 @@ impl Writer {
         self.put_matrix_attribute("transform", m)
     }
 
+    /// Writes an attribute that is an opacity or an offset.
     #[tactic(auto, using(crate::proofs::Appends::appending), unfolding(crate::specs::Element::attribute))]
-    fn put_fraction_attribute(&mut self, name: &str, v: Fx) -> Result<(), Memory>
+    pub(crate) fn put_fraction_attribute(&mut self, name: &str, v: Fx) -> Result<(), Memory>
         ensures { OnOk result (self.new ≡ append self.old (attribute name.now (fraction_text v))) }
     {
         self.start_attribute(name)?;

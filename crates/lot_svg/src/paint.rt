@@ -2,7 +2,6 @@
 ghost use Rattle.std.specs.Prelude.{◌≡◌, OnOk};
 ghost use Rattle.lot_svg.specs.Paint.{before_ink, after_ink, brush_text, data_text, ink_value, path_items};
 ghost use Rattle.lot_svg.specs.Written.{append, add};
-ghost use Rattle.lot_types.specs.Flat.{IsFlat};
 
 use crate::Writer;
 use lot_types::{Brush, Contour, Fx, Ink, Memory, Paint};
@@ -69,24 +68,22 @@ impl Writer {
         self.end_empty_tag()
     }
 
-    /// Writes the color of an ink of one color.
-    fn put_ink(&mut self, ink: &Ink) -> Result<(), Memory>
-        requires flat { IsFlat ink.now }
-        ensures { OnOk result (self.new ≡ add (ink_value ink.now self.old.next) self.old) }
+    /// Writes the value of the attribute for an ink whose definition, if it has one, has the number `n`.
+    fn put_ink(&mut self, ink: &Ink, n: u64) -> Result<(), Memory>
+        ensures { OnOk result (self.new ≡ add (ink_value ink.now n) self.old) }
     {
         match ink {
             Ink::Flat(rgb) => self.put_color(*rgb),
-            _ => unreachable!(),
+            Ink::Linear { .. } | Ink::Radial { .. } => self.put_reference(n),
         }
     }
 
-    /// Writes the path of a paint of one color.
-    pub(crate) fn put_flat(&mut self, p: &Paint) -> Result<(), Memory>
-        requires flat { IsFlat p.now.ink }
-        ensures { OnOk result (self.new ≡ add (path_items p.now self.old.next) self.old) }
+    /// Writes the path of a paint whose ink has the number `n`, if it has a definition.
+    pub(crate) fn put_path_of(&mut self, p: &Paint, n: u64) -> Result<(), Memory>
+        ensures { OnOk result (self.new ≡ add (path_items p.now n) self.old) }
     {
         self.start_path(&p.brush)?;
-        self.put_ink(&p.ink)?;
+        self.put_ink(&p.ink, n)?;
         self.end_path(p)
     }
 }

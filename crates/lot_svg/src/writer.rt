@@ -1,7 +1,7 @@
 //! The text of a frame while it is written.
-ghost use Rattle.std.specs.Prelude.{◌≡◌, ◌+◌, ◌≤◌, false, length, None, OnOk, IfOk};
-ghost use Rattle.lot_svg.specs.Written.{unwritten, append, begin, open_layer, paint, close_layer, finish};
-ghost use Rattle.lot_types.specs.Flat.{IsFlat};
+ghost use Rattle.std.specs.Prelude.{◌≡◌, ◌+◌, ◌≤◌, [], false, length, None, OnOk, IfOk};
+ghost use Rattle.lot_svg.specs.Items.{opens};
+ghost use Rattle.lot_svg.specs.Written.{unwritten, append, put, begin, open_layer, paint, close_layer, finish};
 
 use lot_types::{Bytes, Fx, Memory, Paint, Piece};
 use std::alloc::Global;
@@ -54,6 +54,17 @@ impl Writer {
         self.append(text.as_bytes())
     }
 
+    /// Writes the next identifier, of a definition that opens, and counts it.
+    pub(crate) fn put_next_identifier(&mut self) -> Result<(), Memory>
+        ensures { OnOk result (self.new ≡ put self.old (opens [] self.old.next)) }
+    {
+        self.put_identifier(self.next)?;
+        // There are no more identifiers than bytes in memory, so the sum fits.
+        let _written = self.out.as_slice();
+        self.next += 1;
+        Ok(())
+    }
+
     /// The number that the next identifier will have. It takes no memory.
     pub fn next_id(&self) -> u64
         ensures value { result ≡ self.now.next }
@@ -79,16 +90,17 @@ impl Writer {
         self.open_group(p)
     }
 
-    /// Writes a paint: its contours, filled or stroked. It is not written where it has no contours. As yet each is of
-    /// one color.
+    /// Writes a paint: the definition of its gradient, if it has one, and its contours, filled or stroked. It is not
+    /// written where it has no contours, and then uses up no identifier.
     pub fn paint(&mut self, p: &Paint) -> Result<(), Memory>
-        requires flat { IsFlat p.now.ink }
         ensures { OnOk result (self.new ≡ paint self.old p.now) }
     {
         if p.contours.items().is_empty() {
             return Ok(());
         }
-        self.put_flat(p)
+        let n = self.next;
+        self.put_ink_definition(&p.ink)?;
+        self.put_path_of(p, n)
     }
 
     /// Closes the group of a layer and, where it has a matte, the group that the matte masks.

@@ -143,26 +143,8 @@ ValuesIn doc (item.Place hidden ks) = HasValues doc ks
 unfoldable pub HasOwnValues : Doc → Item → Type 0
 HasOwnValues doc x = ValuesIn doc (out-Item x)
 
-abbrev pub BuiltIn : Item-F Item → Type 0
-BuiltIn (item.Group hidden it) = Unit {0}
-BuiltIn (item.Rect hidden p s r d) = Unit {0}
-BuiltIn (item.Ellipse hidden p s d) = Unit {0}
-BuiltIn (item.Star hidden sy pt p r or_ os ir is_ d) = Unit {0}
-BuiltIn (item.Path hidden ks d) = Unit {0}
-BuiltIn (item.Fill hidden c o r) = Unit {0}
-BuiltIn (item.Stroke hidden c o w lc lj ml d) = Unit {0}
-BuiltIn (item.GradientFill hidden o s e t g h a r) = ⊥
-BuiltIn (item.GradientStroke hidden o s e t g h a w lc lj ml d) = ⊥
-BuiltIn (item.Trim hidden s e o m) = ⊥
-BuiltIn (item.Place hidden ks) = Unit {0}
-
--- So far there are no gradients and no trims.
-unfoldable pub IsBuiltItem : Item → Type 0
-IsBuiltItem x = BuiltIn (out-Item x)
-
 -- Items of a shape layer of a document, as the reader answers them.
 pub record AreItemsOf (doc : Doc) (items : List Item) : Type 0 where
   pub few : length items ≤ max_items
   pub few_within : All HasFewItems (all_items items)
   pub values : All (HasOwnValues doc) (all_items items)
-  pub built : All IsBuiltItem (all_items items)

@@ -1,6 +1,5 @@
 pub mod Curve
 pub mod FaultName
-pub mod Flat
 pub mod Frame
 pub mod Handles
 pub mod Items

@@ -50,6 +50,13 @@ impl<T> Seq<T> {
         Seq { items }
     }
 
+    /// The vector of its items. It takes no memory.
+    pub fn into_vec(self) -> Vec<T>
+        ensures { result.items ≡ self }
+    {
+        self.items
+    }
+
     /// The items in order.
     pub fn items(&self) -> &[T]
         ensures { result.now ≡ self.now }

@@ -9,15 +9,17 @@ use Rattle.lot_group.specs.Painting.{paintings_of}
 use Rattle.lot_group.specs.Pass.{present_painting, maps_of, placed}
 use Rattle.lot_group.specs.Place.{items_of}
 use Rattle.lot_group.specs.Product.{map_product}
+use Rattle.lot_group.specs.Trim.{trimmed_by}
 use Rattle.lot_types.specs.declared.matrix.Matrix.{Matrix}
 use Rattle.lot_group.proofs.Adds.{adds-hidden, adds-transform}
 use Rattle.lot_group.proofs.Items.{leaf_is}
 use Rattle.lot_group.proofs.Alternatives.{leaf-one_of, style-one_of}
-use Rattle.lot_group.proofs.Limits.{items-of_group, values-at, no_trim-at}
+use Rattle.lot_group.proofs.Limits.{items-of_group, values-at, trim-values}
 use Rattle.lot_group.proofs.Lists.{list-Group}
-use Rattle.lot_group.proofs.Steps.{starts, Gathered-at, skips, takes_leaf, takes_group, takes_style, longer, group_matrix-is, group_opacity-is, own_outline-is}
+use Rattle.lot_group.proofs.Steps.{starts, Gathered-at, skips, takes_leaf, takes_group, takes_style, takes_trim, longer, group_matrix-is, group_opacity-is, own_outline-is}
+use Rattle.lot_group.proofs.Trimmed.{trim-is}
 use Rattle.lot_group.proofs.pass.Pass.+visit.Goals as goal
-use Rattle.lot_group.proofs.pass.Pass.+visit.Goals.{in-Group+in_ok-open_group-in-Group+in_ok-visit-in-Group, in-Place, in-Fill+in_ok-add_style-in-Fill, in-Rect+in_ok-outline-in-Rect+in_ok-add_leaf-in-Rect}
+use Rattle.lot_group.proofs.pass.Pass.+visit.Goals.{in-Trim+in_ok-trim-in-Trim, in-Group+in_ok-open_group-in-Group+in_ok-visit-in-Group, in-Place, in-Fill+in_ok-add_style-in-Fill, in-Rect+in_ok-outline-in-Rect+in_ok-add_leaf-in-Rect}
 
 pub loop-k-init : goal.loop-k-init
 loop-k-init t c = record { gathered = starts _ _ _; place = refl; matrices = refl; opacities = refl }
@@ -62,10 +64,32 @@ close_group-requires t c =
       longer c.visit.new.self.maps.items c.open_group.new.self.maps.items _ c.in_ok-visit-in-Group.ensures.maps,
     )
 
-pub unreachable-requires : goal.unreachable-requires
-unreachable-requires t c =
-    no_trim-at c.args.d.now c.args.items.now c.loop-k.k c.index-items-k.result c.requires c.loop-k-test.true
-    c.index-items-k.is (ap kind_of c.in-Trim.is ∙ kind-Trim _ _ _ _ _)
+pub cut_at-cut-requires-clause-s : goal.cut_at-cut-requires-clause-s
+cut_at-cut-requires-clause-s t c =
+    (trim-values c.args.d.now c.index-items-k.result _ _ _ _ _ c.in-Trim.is
+    (values-at c.args.d.now c.args.items.now c.loop-k.k c.index-items-k.result c.requires c.loop-k-test.true
+    c.index-items-k.is)).0
+
+pub cut_at-cut-requires-clause-e : goal.cut_at-cut-requires-clause-e
+cut_at-cut-requires-clause-e t c =
+    (trim-values c.args.d.now c.index-items-k.result _ _ _ _ _ c.in-Trim.is
+    (values-at c.args.d.now c.args.items.now c.loop-k.k c.index-items-k.result c.requires c.loop-k-test.true
+    c.index-items-k.is)).1
+
+pub cut_at-cut-requires-clause-o : goal.cut_at-cut-requires-clause-o
+cut_at-cut-requires-clause-o t c =
+    (trim-values c.args.d.now c.index-items-k.result _ _ _ _ _ c.in-Trim.is
+    (values-at c.args.d.now c.args.items.now c.loop-k.k c.index-items-k.result c.requires c.loop-k-test.true
+    c.index-items-k.is)).2
+
+pub trim-requires : goal.trim-requires
+trim-requires t c =
+    let from : c.len-from.result ≡ length c.args.self.now.outlines.items = search rules in
+    omega (
+      arith,
+      from,
+      longer c.loop-k.self.outlines.items c.args.self.now.outlines.items _ c.loop-k.invariant.gathered.outlines,
+    )
 
 pub add_style-requires : goal.add_style-requires
 add_style-requires t c =
@@ -166,6 +190,25 @@ loop-k-preserved t c =
                 Gathered-at d u _ c.args.items.now k x _ _ _ c.loop-k-test.true c.index-items-k.is
                 (takes_leaf d u _ done x _ _ _ _ _ _ before.gathered outline
                 (own_outline-is d u x outline w.in_ok-outline-in-Rect.ensures) (leaf-one_of x w.in-Rect.is) shown
+                (ap (λ (z : Pass). z.outlines.items) w.self-is ∙ e.outlines)
+                (ap (λ (z : Pass). z.maps.items) w.self-is ∙ e.maps)
+                (ap (λ (z : Pass). z.styles.items) w.self-is ∙ e.styles));
+            place = ap (λ (z : Pass). z.place.items) w.self-is ∙ (e.place ∙ before.place);
+            matrices = ap (λ (z : Pass). z.matrices.items) w.self-is ∙ (e.matrices ∙ before.matrices);
+            opacities = ap (λ (z : Pass). z.opacities.items) w.self-is ∙ (e.opacities ∙ before.opacities);
+          }
+      | in-Trim+in_ok-trim-in-Trim w ↦
+          let e = w.in_ok-trim-in-Trim.ensures in
+          let m = w.in-Trim.m in
+          let cut = w.cut_at-cut.result in
+          let left = trimmed_by m cut (drop c.len-from.result c.loop-k.self.outlines.items) in
+          record {
+            gathered =
+                Gathered-at d u _ c.args.items.now k x _ _ _ c.loop-k-test.true c.index-items-k.is
+                (takes_trim d u _ done x _ _ _ _ _ _ before.gathered c.len-from.result left
+                (ap kind_of w.in-Trim.is ∙ kind-Trim _ _ _ _ _) shown
+                (omega (arith, c.len-from.ensures, c.args.self.now.outlines.ok.0))
+                (trim-is d u x _ _ _ _ m cut _ w.in-Trim.is w.cut_at-cut.ensures)
                 (ap (λ (z : Pass). z.outlines.items) w.self-is ∙ e.outlines)
                 (ap (λ (z : Pass). z.maps.items) w.self-is ∙ e.maps)
                 (ap (λ (z : Pass). z.styles.items) w.self-is ∙ e.styles));
