@@ -1,20 +1,29 @@
 -- The frame of a composition at a time: the layers that it shows, as a tree. After the Lottie Specification 1.0,
 -- "Layers". Mattes and inner compositions come with their layers.
-use Rattle.std.specs.Prelude.{ℕ, ℤ, ◌-◌, Bool, not, ◌&&◌, int_le, int_lt, List, [], ◌∷◌, length, reverse, Option, Some, None, if◌then◌else◌}
+use Rattle.std.specs.Prelude.{ℕ, ℤ, ◌-◌, Bool, true, false, not, ◌&&◌, int_le, int_lt, List, [], ◌∷◌, length, reverse, Option, Some, None, if◌then◌else◌}
 use Rattle.lot_comp.specs.Full.{layer_at}
 use Rattle.lot_comp.specs.Piece.{piece_of}
 use Rattle.lot_refs.specs.Drawn.{drawn_layers}
 use Rattle.lot_refs.specs.Linked.{layers_of}
 use Rattle.lot_types.specs.declared.doc.Doc.{Doc}
 use Rattle.lot_types.specs.declared.layer.Layer.{Layer}
+use Rattle.lot_types.specs.declared.layer.LayerKind.{LayerKind}
+use Rattle.lot_types.specs.declared.layer.LayerKind.TheVariants as kind
 use Rattle.lot_types.specs.declared.matte.Matte.{Matte}
 use Rattle.lot_types.specs.declared.matte.Matte.TheVariants.{No}
 use Rattle.lot_types.specs.declared.piece.Piece.{Piece}
 use Rattle.lot_types.specs.Frame.{Frame, nothing, node, Visit, ClipSize}
 
--- A layer that is not hidden is visible from its first moment to before its last.
+-- A null layer shows nothing.
+abbrev pub shows : LayerKind → Bool
+shows (kind.Precomp name w h st sr tm) = true
+shows (kind.Solid w h rgb) = true
+shows kind.Null = false
+shows (kind.Shape items) = true
+
+-- A layer that shows something and is not hidden is visible from its first moment to before its last.
 abbrev pub is_visible : ℤ → Layer → Bool
-is_visible t layer = not layer.hidden && int_le layer.ip t && int_lt t layer.op
+is_visible t layer = shows layer.kind && not layer.hidden && int_le layer.ip t && int_lt t layer.op
 
 abbrev pub visit_of : ℕ → ℕ → ℤ → Visit
 visit_of c l t = record { comp = c; layer = l; time = t }

@@ -13,6 +13,8 @@ use Rattle.lot_types.specs.declared.layer.LayerKind.{LayerKind}
 use Rattle.lot_types.specs.declared.layer.LayerKind.TheVariants as kind
 use Rattle.lot_types.specs.declared.mask.Mask.{Mask}
 use Rattle.lot_types.specs.declared.matrix.Matrix.{Matrix}
+use Rattle.lot_types.specs.declared.matte.Matte.{Matte}
+use Rattle.lot_types.specs.declared.matte.Matte.TheVariants.{No, Alpha, AlphaInv, Luma, LumaInv}
 use Rattle.lot_types.specs.declared.paint.Paint.{Paint}
 use Rattle.lot_types.specs.declared.piece.Piece.{Piece}
 use Rattle.lot_types.specs.declared.point.Point.{Point}
@@ -72,10 +74,18 @@ abbrev pub without_masks : List Mask → Option Piece → Option Piece
 without_masks [] evaluated = evaluated
 without_masks (mask ∷ masks) evaluated = None
 
+-- Neither are layers with a matte.
+abbrev pub without_matte : Matte → Option Piece → Option Piece
+without_matte No evaluated = evaluated
+without_matte Alpha evaluated = None
+without_matte AlphaInv evaluated = None
+without_matte Luma evaluated = None
+without_matte LumaInv evaluated = None
+
 abbrev pub piece_of_layer : Doc → ℕ → ℕ → ℤ → Layer → Option Piece
 piece_of_layer d c l t layer =
-    without_masks layer.masks
-    (piece_with (full_matrix d c l t) (opacity_value d layer.ks.o t) (paints_of d t layer.kind))
+    without_matte layer.matte (without_masks layer.masks
+    (piece_with (full_matrix d c l t) (opacity_value d layer.ks.o t) (paints_of d t layer.kind)))
 
 -- Layer l of composition c at a time.
 unfoldable pub piece_of : Doc → ℕ → ℕ → ℤ → Option Piece

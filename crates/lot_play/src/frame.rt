@@ -1,6 +1,6 @@
 //! The frame of a document, as SVG.
 ghost use Rattle.std.specs.Prelude.{◌≡◌, ℕ, ◌+◌, ◌≤◌, ◌<◌, Some, List, ◌∷◌, length, fold, OnOk, IfOk};
-ghost use Rattle.lot_comp.specs.Frame.{frame, nodes, is_visible as visible_at};
+ghost use Rattle.lot_comp.specs.Frame.{frame, nodes, is_visible as visible_at, shows as shows_in};
 ghost use Rattle.lot_comp.specs.Full.{AreFull, full_matrix, layer_at};
 ghost use Rattle.lot_comp.specs.Piece.{IsUnmasked};
 ghost use Rattle.lot_play.specs.Picture.{svg_of};
@@ -12,12 +12,14 @@ ghost use Rattle.lot_types.specs.WellFormed.{max_layers};
 use lot_comp::{full_matrices, piece_with};
 use lot_refs::Linked;
 use lot_svg::Writer;
-use lot_types::{Bytes, Layer, Matrix, Memory, Paint, Piece, Steps, Time};
+use lot_types::{Bytes, Layer, LayerKind, Matrix, Memory, Paint, Piece, Steps, Time};
 use std::alloc::Global;
 use std::sync::ledger::Ledger;
 
-/// The frame of a document at a time, in millionths of a frame, as SVG. Each layer that it shows is evaluated once. Want of
-/// memory is the one refusal.
+/// The frame of a document at a time, in millionths of a frame, as SVG. Each layer that it shows is evaluated once, and no
+/// other. Want of memory is the one refusal.
+///
+/// The clause on the counter says less: that no more layers are evaluated than a composition may have.
 #[tactic(auto, unfolding(crate::specs::Picture::svg_of))]
 pub fn draw_frame<L: Ledger>(
     alloc: Global,
@@ -116,7 +118,19 @@ fn layer_of<'a>(d: &'a Linked, c: u32, l: u32) -> &'a Layer
 fn is_visible(layer: &Layer, t: Time) -> bool
     ensures { result ≡ visible_at t layer.now }
 {
-    !layer.hidden && layer.ip.get() <= t.get() && t.get() < layer.op.get()
+    shows(&layer.kind) && !layer.hidden && layer.ip.get() <= t.get() && t.get() < layer.op.get()
+}
+
+/// Whether layers of a kind show anything.
+fn shows(kind: &LayerKind) -> bool
+    ensures { result ≡ shows_in kind.now }
+{
+    match kind {
+        LayerKind::Precomp { .. } => true,
+        LayerKind::Solid { .. } => true,
+        LayerKind::Null => false,
+        LayerKind::Shape(_) => true,
+    }
 }
 
 /// Writes a layer without a matte: its group, with its paints in it.

@@ -21,7 +21,7 @@ use std::alloc::Global;
 use std::sync::ledger::Ledger;
 
 /// Answers a task on the content of a document: the place where it stops being JSON, or its first fault, or what the task
-/// asks for. Only a frame is evaluated, and each of its layers once.
+/// asks for. Only a frame is evaluated, and of it no more layers than a composition may have.
 pub fn judge<L: Ledger>(
     alloc: Global,
     content: &[u8],

@@ -73,7 +73,7 @@ pub fn run<F: Folder, K: Sink, L: Ledger>(
     ensures same { SameContents (F.state folder.old) (F.state folder.new) }
     ensures served { SameServed (F.serves folder.old) (F.serves folder.new) }
 
-    // Only a frame is evaluated, and each of its layers at most once.
+    // Only a frame is evaluated, and of it no more layers than a composition may have.
     ensures uncounted { (AskForFrame arguments.now → ⊥) → steps.new ≡ steps.old }
     ensures counted { steps.new ≤ steps.old + max_layers }
 {

@@ -1,20 +1,11 @@
 -- The layers of a composition that are drawn by themselves, after the Lottie Specification 1.0, "Layers".
-use Rattle.std.specs.Prelude.{ℕ, ◌+◌, Bool, true, false, not, ◌&&◌, List, [], ◌∷◌, map, if◌then◌else◌}
+use Rattle.std.specs.Prelude.{ℕ, ◌+◌, Bool, not, List, [], ◌∷◌, map, if◌then◌else◌}
 use Rattle.lot_types.specs.declared.comp.Comp.{Comp}
 use Rattle.lot_types.specs.declared.layer.Layer.{Layer}
-use Rattle.lot_types.specs.declared.layer.LayerKind.{LayerKind}
-use Rattle.lot_types.specs.declared.layer.LayerKind.TheVariants as kind
 
--- A null layer draws nothing.
-abbrev pub draws : LayerKind → Bool
-draws (kind.Precomp name w h st sr tm) = true
-draws (kind.Solid w h rgb) = true
-draws kind.Null = false
-draws (kind.Shape items) = true
-
--- A layer that serves as a matte is not drawn by itself.
+-- A layer with the member `td` serves as a matte, and is not drawn by itself. No layer has another one as its matte yet.
 abbrev pub is_drawn : Layer → Bool
-is_drawn layer = draws layer.kind && not layer.td
+is_drawn layer = not layer.td
 
 -- The numbers of those of these layers that are drawn, where the first has the number l.
 abbrev pub drawn_from : ℕ → List Layer → List ℕ

@@ -2,10 +2,10 @@
 
 ghost use Rattle.std.specs.Prelude.{◌≡◌, ◌≤◌, length, IfOk};
 ghost use Rattle.std.specs.List.{All};
-ghost use Rattle.lot_refs.specs.Drawn.{draws as draws_in, is_drawn as drawn_in, drawn_layers, drawn_tables};
+ghost use Rattle.lot_refs.specs.Drawn.{is_drawn as drawn_in, drawn_layers, drawn_tables};
 ghost use Rattle.lot_types.specs.WellFormed.{HasFewLayers, max_layers};
 
-use lot_types::{Comp, Layer, LayerKind, Memory, Seq};
+use lot_types::{Comp, Layer, Memory, Seq};
 use std::alloc::Global;
 
 /// The numbers of the layers of each composition that are drawn by themselves.
@@ -38,17 +38,5 @@ fn list_layers(alloc: Global, layers: &[Layer]) -> Result<Seq<u32>, Memory>
 fn is_drawn(layer: &Layer) -> bool
     ensures { result ≡ drawn_in layer.now }
 {
-    draws(&layer.kind) && !layer.td
-}
-
-/// Whether layers of a kind draw anything.
-fn draws(kind: &LayerKind) -> bool
-    ensures { result ≡ draws_in kind.now }
-{
-    match kind {
-        LayerKind::Precomp { .. } => true,
-        LayerKind::Solid { .. } => true,
-        LayerKind::Null => false,
-        LayerKind::Shape(_) => true,
-    }
+    !layer.td
 }

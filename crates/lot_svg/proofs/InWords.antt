@@ -1,5 +1,5 @@
 -- What keeps the order of identifiers opens them in order, and refers to what has ended.
-use Rattle.std.proofs.Common.{◌≡◌, ℕ, suc, ◌+◌, ◌⊎◌, List, [], ◌∷◌, ◌++◌, refl, sym, ◌∙◌, ap, subst, inl, inr, arith}
+use Rattle.std.proofs.Common.{◌≡◌, ℕ, suc, ◌+◌, ◌<◌, ◌⊎◌, List, [], ◌∷◌, ◌++◌, refl, sym, ◌∙◌, ap, subst, inl, inr, arith}
 use Rattle.std.specs.List.{Contains}
 use Rattle.std.proofs.lemmas.List.Elements.{Contains-append_left, Contains-append_right, Contains-push}
 use Rattle.lot_svg.specs.Items.{Item, plain, opens, ends, refers, opened_by}
@@ -36,6 +36,15 @@ ended_at n done (ends c k ∷ more) after b m h =
     ]
 ended_at n done (refers c k ∷ more) after b m h = ended_at n done more after b m h.1
 
+-- A definition that ends in these items opened in them, or before them.
+ended_below : (n : ℕ) (done : List ℕ) (before after : List Item) (b : List ℕ) (m : ℕ)
+    → Follows n done (before ++ ends b m ∷ after) → m < n + opened_by before
+ended_below n done [] after b m h = omega (arith, h.0)
+ended_below n done (plain c ∷ more) after b m h = omega (arith, ended_below n done more after b m h)
+ended_below n done (opens c k ∷ more) after b m h = omega (arith, ended_below (n + 1) done more after b m h.1)
+ended_below n done (ends c k ∷ more) after b m h = omega (arith, ended_below n (k ∷ done) more after b m h.1)
+ended_below n done (refers c k ∷ more) after b m h = omega (arith, ended_below n done more after b m h.1)
+
 contains : (m : ℕ) (list : List ℕ) → IsOneOf m list → Contains list m
 contains m [] h = absurd h
 contains m (n ∷ more) (inl e) =
@@ -45,6 +54,7 @@ contains m (n ∷ more) (inr h) = Contains-append_right (n ∷ []) more m (conta
 pub in_order : (n : ℕ) (list : List Item) → Follows n [] list → IsOrdered n list
 in_order n list h = record {
   opened = counted n [] list h;
+  ended = λ before after b m e. ended_below n [] before after b m (subst (Follows n []) e h);
   referred = λ before after b m e. elim (ended_at n [] before after b m (subst (Follows n []) e h)) [
     | inl x ↦ contains m (ended_numbers before) x
     | inr x ↦ absurd x

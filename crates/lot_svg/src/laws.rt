@@ -2,20 +2,20 @@
 //! are laws of the definitions alone.
 ghost use Rattle.std.specs.Prelude.{◌≡◌, ℤ};
 ghost use Rattle.lot_types.specs.declared.piece.Piece.{Piece};
-ghost use Rattle.lot_types.specs.Frame.{Frame, Visit};
+ghost use Rattle.lot_types.specs.Frame.{Frame};
 ghost use Rattle.lot_svg.specs.Layer.{items};
 ghost use Rattle.lot_svg.specs.Identifiers.{IsOrdered};
 ghost use Rattle.lot_svg.specs.Svg.{svg_text};
 ghost use Rattle.lot_svg.specs.Written.{unwritten, begin, write, finish};
 
-/// The identifiers of each frame are 1, 2, 3 and so on in the order in which their definitions open, and each reference
-/// comes after the end of its definition.
+/// The identifiers of each finished frame are 1, 2, 3 and so on in the order in which their definitions open. Each
+/// definition ends after it opened, and each reference comes after the end of its definition.
 pub fn identifiers_open_in_order()
-    ensures { (piece : Visit → Piece) (f : Frame Visit) → IsOrdered 1 (items piece f 1) }
+    ensures { (f : Frame Piece) → IsOrdered 1 (items (λ p. p) f 1) }
 {}
 
-/// The calls for a frame, between the begin and the end, give the text of the frame.
+/// The calls for a finished frame, between the begin and the end, give the text of the frame.
 pub fn calls_give_the_text()
-    ensures { (w h : ℤ) (piece : Visit → Piece) (f : Frame Visit)
-        → finish (write piece f (begin w h unwritten)) ≡ svg_text w h piece f }
+    ensures { (w h : ℤ) (f : Frame Piece)
+        → finish (write (λ p. p) f (begin w h unwritten)) ≡ svg_text w h (λ p. p) f }
 {}

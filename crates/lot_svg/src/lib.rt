@@ -3,8 +3,8 @@
 //! A [`Writer`] keeps the text and the number of the next identifier. Its calls follow the frame: `begin`, for each
 //! layer `open_layer`, `paint` for each of its paints and `close_layer`, and `end`. A gradient is defined right before
 //! the path that refers to it. The layout of the text is this project's own: after each `>` of a tag comes one line
-//! feed, attributes that have their default value are left out, except in gradients, and numbers have no more decimals
-//! than they need.
+//! feed, some attributes are left out where they have their default value, and numbers have no more decimals than they
+//! need.
 #![tactic(auto)]
 
 mod element;

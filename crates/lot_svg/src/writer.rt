@@ -39,7 +39,7 @@ impl Writer {
         })
     }
 
-    /// Writes bytes that have no identifier in them.
+    /// Writes bytes that open no definition.
     #[tactic(auto, unfolding(crate::specs::Written::append))]
     pub(crate) fn append(&mut self, bytes: &[u8]) -> Result<(), Memory>
         ensures { OnOk result (self.new ≡ append self.old bytes.now) }
@@ -47,7 +47,7 @@ impl Writer {
         self.out.append(bytes)
     }
 
-    /// Writes a text that has no identifier in it.
+    /// Writes a text that opens no definition.
     pub(crate) fn put(&mut self, text: &str) -> Result<(), Memory>
         ensures { OnOk result (self.new ≡ append self.old text.now) }
     {

@@ -5,4 +5,4 @@ use Rattle.lot_svg.proofs.InWords.{in_order}
 use Rattle.lot_svg.proofs.laws.identifiers_open_in_order.Goals as goal
 
 pub returns : goal.returns
-returns c = λ piece f. in_order 1 (items piece f 1) (follows piece f 1 [])
+returns c = λ f. in_order 1 (items (λ p. p) f 1) (follows (λ p. p) f 1 [])
