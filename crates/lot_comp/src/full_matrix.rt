@@ -21,6 +21,7 @@ pub(crate) fn full_of(alloc: Global, d: &Linked, c: u32, l: u32, t: Time) -> Res
     ensures by_parent { IfOk result (λ m.
         full_by_parent d.now c l t (parent_of (layers_of d.now c) l) ≡ Some m) }
 {
+    // The clause by the parent rests on what this call says of the chain of parents.
     let _parent = d.parent_of(c, l);
     let chain = chain_of(alloc, d, c, l)?;
     let m = product_of(d, c, l, &chain.items()[1..], t);

@@ -8,7 +8,7 @@ use Rattle.lot_json.specs.declared.tree.json.Json.{out-Json, size-Json}
 use Rattle.lot_json.specs.declared.tree.json.Json.TheOpen as tree
 use Rattle.lot_json.specs.declared.tree.pointer.Step.{Step}
 use Rattle.lot_read.specs.Findings.{Findings, Reader, bad}
-use Rattle.lot_read.specs.Lists.{max_list_items}
+use Rattle.lot_types.specs.Limits.{max_list_items}
 use Rattle.lot_read.specs.Number.{any}
 use Rattle.lot_read.specs.SlotNames.{Names}
 use Rattle.lot_read.specs.Sound.{IsSound, ReadsSoundly, RowsAreSound}

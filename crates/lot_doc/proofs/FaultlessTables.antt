@@ -6,12 +6,12 @@ use Rattle.lot_types.specs.declared.item.Item.{Item}
 use Rattle.lot_types.specs.declared.layer.LayerKind.{LayerKind}
 use Rattle.lot_types.specs.declared.layer.LayerKind.TheVariants as kind
 use Rattle.lot_types.specs.declared.rgb.Rgb.{Rgb}
-use Rattle.lot_types.specs.WellFormed.{max_layers}
+use Rattle.lot_types.specs.Limits.{max_layers}
 use Rattle.lot_json.specs.declared.tree.json.Json.{Json, out-Json}
 use Rattle.lot_json.specs.declared.tree.json.Json.TheOpen as tree
 use Rattle.lot_json.specs.declared.tree.pointer.Step.{Step}
 use Rattle.lot_read.specs.Findings.{Findings, under, bad}
-use Rattle.lot_read.specs.Lists.{max_list_items}
+use Rattle.lot_types.specs.Limits.{max_list_items}
 use Rattle.lot_read.specs.Number.{any, not_below_zero, above_zero}
 use Rattle.lot_read.specs.SlotNames.{Names}
 use Rattle.lot_read.specs.Sound.{IsSound, ReadsSoundly, RowsAreSound}

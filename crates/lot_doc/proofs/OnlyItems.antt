@@ -14,7 +14,7 @@ use Rattle.lot_types.specs.Items.{HasFewItems, HasOwnValues, AreItemsOf, held, a
 use Rattle.lot_types.proofs.Held.{held-Group, all_of_each}
 use Rattle.lot_json.specs.declared.tree.json.Json.{size-Json}
 use Rattle.lot_read.specs.Findings.{Reader}
-use Rattle.lot_read.specs.Lists.{max_list_items}
+use Rattle.lot_types.specs.Limits.{max_list_items}
 use Rattle.lot_read.specs.Rows.{needed, optional}
 use Rattle.lot_read.specs.Transform.{hundred_per_cent}
 use Rattle.lot_read.specs.Whole.{whole}

@@ -12,7 +12,8 @@ use Rattle.lot_types.specs.declared.prop.Prop.{Prop}
 use Rattle.lot_types.specs.declared.stops.Stops.{Stops}
 use Rattle.lot_types.specs.Items.{DashesHaveValues}
 use Rattle.lot_types.specs.Slots.{HasScalar}
-use Rattle.lot_read.specs.Lists.{max_list_items, list}
+use Rattle.lot_read.specs.Lists.{list}
+use Rattle.lot_types.specs.Limits.{max_list_items}
 use Rattle.lot_read.specs.Number.{any, number}
 use Rattle.lot_read.specs.Rows.{needed, optional, object}
 use Rattle.lot_read.specs.Transform.{hundred_per_cent}
@@ -50,7 +51,7 @@ dash_only at m =
     (good_only _ (λ n v ever. ever)))
 
 abbrev EverLine : Line → Type 0
-EverLine line = EverScalar line.w × All EverDash line.d
+EverLine line = EverScalar line.w × AreFew max_list_items EverDash line.d
 
 dashes_only : RowsGiveOnly (AreFew max_list_items EverDash) (optional (codes "d") (list max_list_items (object (dash_rows []))) [])
 dashes_only at m =
@@ -64,10 +65,10 @@ line_only at m =
     (any_row_only (optional (codes "lj") (whole 1 3) 2 at m)
     (any_row_only (optional (codes "lc") (whole 1 3) 2 at m)
     (row_only (scalar_needed (codes "w") at m)
-    (good_only _ (λ w ever_w lc lj ml d ever_d. (ever_w, ever_d.1)))))))
+    (good_only _ (λ w ever_w lc lj ml d ever_d. (ever_w, ever_d)))))))
 
 dashes_have_values : (doc : Doc) (l : Line) → EverLine l → DashesHaveValues doc l.d
-dashes_have_values doc l ever = All-weaker EverDash (λ dash. HasScalar doc dash.v) (λ dash h. h doc) l.d ever.1
+dashes_have_values doc l ever = All-weaker EverDash (λ dash. HasScalar doc dash.v) (λ dash h. h doc) l.d ever.1.1
 
 abbrev stroke : Bool → Prop Color → Prop ℤ → Line → Item
 stroke hidden c o line = made.Stroke hidden c o line.w line.lc line.lj line.ml line.d
@@ -75,7 +76,7 @@ stroke hidden c o line = made.Stroke hidden c o line.w line.lc line.lj line.ml l
 good_stroke : (hidden : Bool) (c : Prop Color) → EverColor c → (o : Prop ℤ) → EverScalar o → (line : Line) → EverLine line
     → IsGood (stroke hidden c o line)
 good_stroke hidden c ever_c o ever_o l ever =
-    single (stroke hidden c o l) (item.Stroke hidden c o l.w l.lc l.lj l.ml l.d) (made.outs-Stroke hidden c o l.w l.lc l.lj l.ml l.d) tt
+    single (stroke hidden c o l) (item.Stroke hidden c o l.w l.lc l.lj l.ml l.d) (made.outs-Stroke hidden c o l.w l.lc l.lj l.ml l.d) ever.1.0
     (λ doc. (ever_c doc, ever_o doc, ever.0 doc, dashes_have_values doc l ever)) refl
 
 pub stroke_only : RowsGiveOnly IsGood (stroke_rows [])
@@ -142,7 +143,7 @@ gradient_stroke hidden b l = made.GradientStroke hidden b.o b.s b.e b.t b.g b.h 
 good_gradient_stroke : (hidden : Bool) (b : BaseGradient) → EverBase b → (l : Line) → EverLine l → IsGood (gradient_stroke hidden b l)
 good_gradient_stroke hidden b ever l lined =
     single (gradient_stroke hidden b l) (item.GradientStroke hidden b.o b.s b.e b.t b.g b.h b.a l.w l.lc l.lj l.ml l.d)
-    (made.outs-GradientStroke hidden b.o b.s b.e b.t b.g b.h b.a l.w l.lc l.lj l.ml l.d) tt
+    (made.outs-GradientStroke hidden b.o b.s b.e b.t b.g b.h b.a l.w l.lc l.lj l.ml l.d) lined.1.0
     (λ doc. (ever.0 doc, ever.1 doc, ever.2 doc, ever.3 doc, ever.4 doc, ever.5 doc, lined.0 doc, dashes_have_values doc l lined)) refl
 
 pub gradient_stroke_only : RowsGiveOnly IsGood (gradient_stroke_rows [])

@@ -12,9 +12,11 @@ use Rattle.lot_types.specs.declared.rgb.Rgb.{Rgb}
 use Rattle.lot_types.specs.declared.read.Read.{Read}
 use Rattle.lot_types.specs.declared.slot.Use.{Use}
 use Rattle.lot_types.specs.declared.transform.Transform.{Transform}
-use Rattle.lot_types.specs.WellFormed.{max_layers, HasFewLayers, HasKindValues, HasLayerValues, LayersHaveValues, IsBuiltKind, IsBuilt, LayersAreBuilt, IsWellFormed}
+use Rattle.lot_types.specs.WellFormed.{HasFewLayers, HasKindValues, HasLayerValues, LayersHaveValues, IsBuiltKind, IsBuilt, LayersAreBuilt, IsWellFormed}
+use Rattle.lot_types.specs.Limits.{max_layers}
 use Rattle.lot_json.specs.declared.tree.json.Json.{Json}
-use Rattle.lot_read.specs.Lists.{max_list_items, list}
+use Rattle.lot_read.specs.Lists.{list}
+use Rattle.lot_types.specs.Limits.{max_list_items}
 use Rattle.lot_read.specs.Number.{not_below_zero, above_zero, number}
 use Rattle.lot_read.specs.Rows.{needed, optional, unbuilt, object}
 use Rattle.lot_doc.specs.declared.layer_type.LayerType.{LayerType}
@@ -104,6 +106,8 @@ well_formed_doc w h fr above time layers few uses =
       some = omega arith;
       few_comps = omega arith;
       few_layers = All-cons HasFewLayers main [] few.0 (All-nil HasFewLayers);
+      few_slots = omega arith;
+      named = tt;
       rate = lt_z_yes (subst T (sym above) tt);
       slots = All-cons (LayersHaveValues d) main [] (λ k other within. (few.1 k other within).0 d) (All-nil (LayersHaveValues d));
       built = All-cons LayersAreBuilt main [] (λ k other within. (few.1 k other within).1) (All-nil LayersAreBuilt);

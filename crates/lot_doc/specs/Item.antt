@@ -6,7 +6,8 @@ use Rattle.lot_types.specs.declared.item.Item.{Item}
 use Rattle.lot_types.specs.declared.item.Item.TheVariants as made
 use Rattle.lot_json.specs.declared.tree.json.Json.{size-Json}
 use Rattle.lot_read.specs.Findings.{Reader, Row, good, bad, ◌⊛◌, ◌then◌}
-use Rattle.lot_read.specs.Lists.{max_list_items, list}
+use Rattle.lot_read.specs.Lists.{list}
+use Rattle.lot_types.specs.Limits.{max_list_items}
 use Rattle.lot_read.specs.Rows.{needed, object}
 use Rattle.lot_read.specs.SlotNames.{Names}
 use Rattle.lot_read.specs.Transform.{transform_rows}

@@ -12,7 +12,7 @@ use Rattle.lot_doc.specs.declared.item_type.ItemType.{ItemType}
 use Rattle.lot_doc.specs.declared.item_type.ItemType.TheVariants.{Group, Rectangle, Ellipse, Polystar, Path, Fill, Stroke, GradientFill, GradientStroke, Trim, Transform}
 use Rattle.lot_doc.specs.Feature.{normal_blend}
 
--- The type of this name. Items of other names are left out, or not built yet.
+-- The type of this name. Items of other names are left out; rounded corners, `rd`, are not built yet.
 abbrev pub type_named : List ℕ → Option ItemType
 type_named name =
     if bytes_eq name (codes "gr") then Some Group

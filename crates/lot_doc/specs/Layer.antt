@@ -10,7 +10,8 @@ use Rattle.lot_types.specs.declared.matte.Matte.TheVariants as matte
 use Rattle.lot_json.specs.declared.tree.pointer.Step.{Step}
 use Rattle.lot_read.specs.Findings.{Findings, Reader, Row, good, bad, ◌⊛◌, ◌also◌, ◌then◌}
 use Rattle.lot_read.specs.Flag.{flag}
-use Rattle.lot_read.specs.Lists.{max_list_items, list}
+use Rattle.lot_read.specs.Lists.{list}
+use Rattle.lot_types.specs.Limits.{max_list_items}
 use Rattle.lot_read.specs.Number.{any, not_below_zero, number}
 use Rattle.lot_read.specs.Rows.{needed, optional, maybe, unbuilt}
 use Rattle.lot_read.specs.SlotNames.{Names}

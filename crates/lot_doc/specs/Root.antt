@@ -5,7 +5,7 @@ use Rattle.lot_types.specs.declared.fault.FaultCode.TheVariants.{Order}
 use Rattle.lot_types.specs.declared.comp.Comp.{Comp}
 use Rattle.lot_types.specs.declared.doc.Doc.{Doc}
 use Rattle.lot_types.specs.declared.layer.Layer.{Layer}
-use Rattle.lot_types.specs.WellFormed.{max_layers}
+use Rattle.lot_types.specs.Limits.{max_layers}
 use Rattle.lot_json.specs.declared.tree.json.Json.{Json}
 use Rattle.lot_json.specs.declared.tree.pointer.Step.{Step}
 use Rattle.lot_read.specs.Findings.{Findings, Row, under, good, bad, ◌⊛◌, ◌also◌, ◌then◌}

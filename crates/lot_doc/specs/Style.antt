@@ -13,7 +13,8 @@ use Rattle.lot_json.specs.declared.tree.json.Json.TheOpen as tree
 use Rattle.lot_json.specs.declared.tree.pointer.Step.{Step}
 use Rattle.lot_read.specs.Color.{color}
 use Rattle.lot_read.specs.Findings.{Findings, Reader, Row, good, bad, ◌⊛◌}
-use Rattle.lot_read.specs.Lists.{max_list_items, list}
+use Rattle.lot_read.specs.Lists.{list}
+use Rattle.lot_types.specs.Limits.{max_list_items}
 use Rattle.lot_read.specs.Number.{any, number, scalar}
 use Rattle.lot_read.specs.PropertyRows.{needed_property}
 use Rattle.lot_read.specs.Rows.{needed, optional, object}

@@ -6,7 +6,8 @@ ghost use Rattle.lot_json.specs.declared.tree.json.JsonMembers.{out-JsonMembers,
 ghost use Rattle.lot_types.specs.declared.fault.FaultCode.TheVariants as code;
 ghost use Rattle.lot_types.specs.Refusals.{Fails};
 ghost use Rattle.lot_read.specs.Findings.{Reader as ItemReader, fault, under, item as place_of_item};
-ghost use Rattle.lot_read.specs.Lists.{max_list_items, each, list};
+ghost use Rattle.lot_read.specs.Lists.{each, list};
+ghost use Rattle.lot_types.specs.Limits.{max_list_items};
 ghost use Rattle.lot_read.specs.Members.{RowGives, SameMembers};
 ghost use Rattle.lot_read.specs.Outcome.{Gives};
 ghost use Rattle.lot_read.specs.Rows.{needed, object};
@@ -26,8 +27,8 @@ use crate::rectangle::read_rectangle;
 use crate::stroke::read_stroke;
 use crate::trim::read_trim;
 use lot_json::{Json, JsonMembers, Pointer};
-use lot_read::{MAX_LIST_ITEMS, Members, Reader, Rows, SlotNames, TransformOf, refusal_at};
-use lot_types::{FaultCode, Item, Refusal, Seq, Use};
+use lot_read::{Members, Reader, Rows, SlotNames, TransformOf, refusal_at};
+use lot_types::{FaultCode, Item, MAX_LIST_ITEMS, Refusal, Seq, Use};
 
 /// Reads an item of a shape layer by its type. After a fault of the type nothing more of the item is read. The items of
 /// a group are read by recursion, as deep as a tree of JSON has levels.

@@ -8,11 +8,8 @@ use crate::color::ColorText;
 use crate::feature::refuse_left_out;
 use crate::item::ItemOf;
 use crate::layer_type::{LayerType, LayerTypeValue};
-use lot_read::{
-    Flag, ListOf, MAX_LIST_ITEMS, Members, Moment, NumberValue, Object, Rows, SlotNames,
-    TransformOf,
-};
-use lot_types::{Fx, Layer, LayerKind, Matte, Refusal, Seq, Time, Transform};
+use lot_read::{Flag, ListOf, Members, Moment, NumberValue, Object, Rows, SlotNames, TransformOf};
+use lot_types::{Fx, Layer, LayerKind, MAX_LIST_ITEMS, Matte, Refusal, Seq, Time, Transform};
 
 /// Reads the members of a layer by its type. After a fault of the type nothing more of the layer is read.
 #[derive(Clone, Copy)]

@@ -7,10 +7,10 @@ ghost use Rattle.lot_doc.specs.Style.{default_miter as default_miter_in, line_ro
 use crate::dash::DashRows;
 use crate::item_head::read_head;
 use lot_read::{
-    Choice, ColorValue, ListOf, MAX_LIST_ITEMS, Members, NumberValue, Object, ScalarValue,
-    SlotNames, hundred_per_cent, needed_property, scalar_or,
+    Choice, ColorValue, ListOf, Members, NumberValue, Object, ScalarValue, SlotNames,
+    hundred_per_cent, needed_property, scalar_or,
 };
-use lot_types::{Dash, Fx, Item, Prop, Refusal, Seq};
+use lot_types::{Dash, Fx, Item, MAX_LIST_ITEMS, Prop, Refusal, Seq};
 
 const END: Choice = Choice { low: 1, high: 3 };
 

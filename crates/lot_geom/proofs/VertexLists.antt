@@ -3,7 +3,7 @@ use Rattle.std.proofs.Common.{◌≡◌, ◌∙◌, ℕ, zero, suc, ◌+◌, ◌
 use Rattle.std.proofs.lemmas.List.{drop_all}
 use Rattle.lot_types.specs.declared.point.Point.{Point}
 use Rattle.lot_types.specs.declared.seg.Seg.{Seg}
-use Rattle.lot_types.specs.Curve.{Curve, HasOneLength}
+use Rattle.lot_types.specs.Curve.{Curve, AreVertices}
 use Rattle.lot_geom.specs.Offset.{no_offset}
 use Rattle.lot_geom.specs.Path.{Vertex, vertices, vertices_of, vertex_at, curves, curve_between, segs_of}
 
@@ -24,11 +24,11 @@ drop_vertices (v ∷ vs) (i ∷ is) (o ∷ os) zero h p q = refl
 drop_vertices (v ∷ vs) (i ∷ is) (o ∷ os) (suc k) h p q =
     drop_vertices vs is os k (omega (arith, h)) (omega (arith, p)) (omega (arith, q))
 
-drop_at : (b : Curve) (k : ℕ) → HasOneLength b.v b.i b.o → k < length b.v
+drop_at : (b : Curve) (k : ℕ) → AreVertices b.v b.i b.o → k < length b.v
     → drop k (vertices_of b) ≡ vertex_at b k ∷ drop (k + 1) (vertices_of b)
-drop_at b k one_length h =
+drop_at b k are_vertices h =
     let next : suc k ≡ k + 1 = omega arith in
-    drop_vertices b.v b.i b.o k h one_length.0 one_length.1 ∙ ap (λ (n : ℕ). vertex_at b k ∷ drop n (vertices_of b)) next
+    drop_vertices b.v b.i b.o k h are_vertices.into are_vertices.out ∙ ap (λ (n : ℕ). vertex_at b k ∷ drop n (vertices_of b)) next
 
 -- The curves to the vertices before `to` are made, whatever follows the last vertex.
 abbrev pub AreMade : Curve → List Seg → ℕ → Type 0
@@ -39,31 +39,31 @@ AreMade b made to = (tail : List Vertex)
 pub none_made : (b : Curve) → AreMade b [] 1
 none_made b tail = refl
 
-pub one_more : (b : Curve) (made : List Seg) (to : ℕ) (seg : Seg) → HasOneLength b.v b.i b.o → 0 < to → to < length b.v
+pub one_more : (b : Curve) (made : List Seg) (to : ℕ) (seg : Seg) → AreVertices b.v b.i b.o → 0 < to → to < length b.v
     → seg ≡ curve_between (vertex_at b (to - 1)) (vertex_at b to) → AreMade b made to → AreMade b (made ++ seg ∷ []) (to + 1)
-one_more b made to seg one_length some within is h tail =
+one_more b made to seg are_vertices some within is h tail =
     let here : to - 1 + 1 ≡ to = omega arith in
     let next : to + 1 - 1 ≡ to = omega arith in
     let from =
-    drop_at b (to - 1) one_length (omega (arith, within))
+    drop_at b (to - 1) are_vertices (omega (arith, within))
     ∙ ap (λ (n : ℕ). vertex_at b (to - 1) ∷ drop n (vertices_of b)) here in
     append_assoc made (seg ∷ []) (curves (drop (to + 1 - 1) (vertices_of b)) (drop (to + 1) (vertices_of b) ++ tail))
     ∙ ap (λ (n : ℕ). made ++ seg ∷ curves (drop n (vertices_of b)) (drop (to + 1) (vertices_of b) ++ tail)) next
     ∙ ap (λ (s : Seg). made ++ s ∷ curves (drop to (vertices_of b)) (drop (to + 1) (vertices_of b) ++ tail)) is
     ∙ ap (λ (tos : List Vertex). made ++ curves (vertex_at b (to - 1) ∷ drop to (vertices_of b)) (tos ++ tail))
-    (sym (drop_at b to one_length within))
+    (sym (drop_at b to are_vertices within))
     ∙ ap (λ (froms : List Vertex). made ++ curves froms (drop to (vertices_of b) ++ tail)) (sym from)
     ∙ h tail
 
 -- What is made when each vertex but the first has been passed.
 made_at_end : (b : Curve) (made : List Seg) (n : ℕ) (tail : List Vertex)
-    → HasOneLength b.v b.i b.o → 0 < n → n ≡ length b.v → AreMade b made n
+    → AreVertices b.v b.i b.o → 0 < n → n ≡ length b.v → AreMade b made n
     → made ++ curves (vertex_at b (n - 1) ∷ []) tail ≡ curves (vertices_of b) (drop 1 (vertices_of b) ++ tail)
-made_at_end b made n tail one_length some is h =
-    let none = drop_all n (vertices_of b) (omega (arith, length_of_vertices b.v b.i b.o one_length.0 one_length.1, is)) in
+made_at_end b made n tail are_vertices some is h =
+    let none = drop_all n (vertices_of b) (omega (arith, length_of_vertices b.v b.i b.o are_vertices.into are_vertices.out, is)) in
     let here : n - 1 + 1 ≡ n = omega arith in
     let last =
-    drop_at b (n - 1) one_length (omega (arith, is))
+    drop_at b (n - 1) are_vertices (omega (arith, is))
     ∙ ap (λ (k : ℕ). vertex_at b (n - 1) ∷ drop k (vertices_of b)) here
     ∙ ap (λ (xs : List Vertex). vertex_at b (n - 1) ∷ xs) none in
     ap (λ (froms : List Vertex). made ++ curves froms tail) (sym last)
@@ -79,17 +79,17 @@ segs_closed : (xs : List Vertex) (first : Vertex) (more : List Vertex) → xs �
 segs_closed [] first more e = absurd (cc)
 segs_closed (x ∷ xs) first more e = ap (λ (z : Vertex). curves (x ∷ xs) (xs ++ z ∷ [])) (cc)
 
-pub left_open : (b : Curve) (made : List Seg) (n : ℕ) → HasOneLength b.v b.i b.o → 0 < n → n ≡ length b.v → AreMade b made n
+pub left_open : (b : Curve) (made : List Seg) (n : ℕ) → AreVertices b.v b.i b.o → 0 < n → n ≡ length b.v → AreMade b made n
     → made ≡ segs_of false (vertices_of b)
-left_open b made n one_length some is h =
+left_open b made n are_vertices some is h =
     sym (append-nil made)
-    ∙ made_at_end b made n [] one_length some is h
-    ∙ segs_open (vertices_of b) (omega (arith, length_of_vertices b.v b.i b.o one_length.0 one_length.1, is))
+    ∙ made_at_end b made n [] are_vertices some is h
+    ∙ segs_open (vertices_of b) (omega (arith, length_of_vertices b.v b.i b.o are_vertices.into are_vertices.out, is))
 
-pub closes : (b : Curve) (made : List Seg) (n : ℕ) (seg : Seg) → HasOneLength b.v b.i b.o → 0 < n → n ≡ length b.v
+pub closes : (b : Curve) (made : List Seg) (n : ℕ) (seg : Seg) → AreVertices b.v b.i b.o → 0 < n → n ≡ length b.v
     → seg ≡ curve_between (vertex_at b (n - 1)) (vertex_at b 0) → AreMade b made n
     → made ++ seg ∷ [] ≡ segs_of true (vertices_of b)
-closes b made n seg one_length some is seg_is h =
+closes b made n seg are_vertices some is seg_is h =
     ap (λ (s : Seg). made ++ s ∷ []) seg_is
-    ∙ made_at_end b made n (vertex_at b 0 ∷ []) one_length some is h
-    ∙ segs_closed (vertices_of b) (vertex_at b 0) (drop 1 (vertices_of b)) (drop_at b 0 one_length (omega (arith, some, is)))
+    ∙ made_at_end b made n (vertex_at b 0 ∷ []) are_vertices some is h
+    ∙ segs_closed (vertices_of b) (vertex_at b 0) (drop 1 (vertices_of b)) (drop_at b 0 are_vertices (omega (arith, some, is)))

@@ -8,7 +8,8 @@ use Rattle.lot_types.specs.declared.item.Item.TheOpen as item
 use Rattle.lot_types.specs.declared.item.Item.TheVariants.{Trim, outs-Trim}
 use Rattle.lot_types.specs.declared.prop.Prop.{Prop}
 use Rattle.lot_types.specs.declared.transform.Transform.{Transform}
-use Rattle.lot_types.specs.Items.{held, all_items, max_items, FewIn, HasFewItems, ValuesIn, HasOwnValues, AreItemsOf}
+use Rattle.lot_types.specs.Limits.{max_list_items}
+use Rattle.lot_types.specs.Items.{held, all_items, FewIn, HasFewItems, ValuesIn, HasOwnValues, AreItemsOf}
 use Rattle.lot_types.specs.Slots.{HasScalar, HasValues}
 use Rattle.lot_group.specs.Group.{transform_in, given_transform}
 use Rattle.lot_group.specs.Place.{list_in, items_of}
@@ -38,7 +39,7 @@ pub of_all_at : (P : Item → Type 0) (xs : List Item) (k : ℕ) (x : Item) → 
     x ≡ get_or xs k x → OfAll P x
 of_all_at P xs k x h l e = subst (OfAll P) (sym e) (all-from (OfAll P) xs (each_of_all P xs h) k x l)
 
-few_in : (y : Item-F Item) → FewIn y → length (list_in y) ≤ max_items
+few_in : (y : Item-F Item) → FewIn y → length (list_in y) ≤ max_list_items
 few_in (item.Group h it) f = f
 few_in (item.Rect h p s r d) f = omega arith
 few_in (item.Ellipse h p s d) f = omega arith
@@ -51,7 +52,7 @@ few_in (item.GradientStroke h o s e t g n a w lc lj ml d) f = omega arith
 few_in (item.Trim h s e o m) f = omega arith
 few_in (item.Place h ks) f = omega arith
 
-few_of : (x : Item) → HasFewItems x → length (items_of x) ≤ max_items
+few_of : (x : Item) → HasFewItems x → length (items_of x) ≤ max_list_items
 unfolding HasFewItems items_of
 few_of x f = few_in (out-Item x) f
 

@@ -91,7 +91,7 @@ covers (k ∷ s) [] = false
 covers (k ∷ []) (i ∷ q) = nat_lt i k
 covers (k ∷ (l ∷ s)) (i ∷ q) = (i == k) && covers (l ∷ s) q
 
--- The place q comes before p in order of place, where the place s is p, k.
+-- The place q comes before p and all that it encloses in order of place, where the place s is p, k.
 unfoldable pub earlier : List ℕ → List ℕ → Bool
 earlier [] q = false
 earlier (k ∷ s) [] = false

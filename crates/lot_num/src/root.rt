@@ -12,5 +12,19 @@ pub fn isqrt(x: u128) -> u64
     ensures square { result * result ≤ x }
     ensures next_square { x < (result + 1) * (result + 1) }
 {
-    x.isqrt() as u64
+    if x == 0 {
+        return 0;
+    }
+    // The root has half as many binary digits as x.
+    let mut low: u128 = 1 << (x.ilog2() / 2);
+    let mut high = 2 * low;
+    while low + 1 < high {
+        let middle = (low + high) / 2;
+        if middle * middle <= x {
+            low = middle;
+        } else {
+            high = middle;
+        }
+    }
+    low as u64
 }

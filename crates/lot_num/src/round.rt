@@ -64,7 +64,7 @@ pub(crate) fn nearest_u128(n: u128, d: u128) -> u128
     ensures small { result ≤ n }
 {
     let whole = n / d;
-    let rest = n % d;
+    let rest = n - whole * d;
     if rest >= d - rest { whole + 1 } else { whole }
 }
 

@@ -6,7 +6,7 @@ use crate::number::times;
 use lot_geom::limited;
 use lot_types::Fx;
 
-/// That distance where the radius is 1, in millionths.
+/// The distance of a control point of a quarter from the nearer end where the radius is 1, in millionths.
 const HANDLE: i128 = 551_900;
 
 /// The distance of a control point of a quarter from the nearer end, where the radius in that direction is `r`.

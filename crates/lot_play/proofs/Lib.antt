@@ -1,5 +1,6 @@
 pub mod ReadLoop
 pub mod WriteLoop
+pub mod Evaluating
 pub mod Judging
 pub mod Running
 pub mod Requests

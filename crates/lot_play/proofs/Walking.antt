@@ -1,5 +1,5 @@
 -- One layer more is written.
-use Rattle.std.proofs.Common.{◌≡◌, ℕ, ℤ, List, ◌∷◌, true, false, Bool, Option, None, Some, option_map, refl, sym, ap, ◌∙◌, if◌then◌else◌}
+use Rattle.std.proofs.Common.{◌≡◌, ℕ, ℤ, ◌+◌, ◌≤◌, List, ◌∷◌, length, arith, true, false, Bool, Option, None, Some, option_map, refl, sym, ap, ◌∙◌, if◌then◌else◌}
 use Rattle.lot_comp.specs.Frame.{evaluated, node_with, piece_at, node_of, with_layer, is_visible, nodes}
 use Rattle.lot_comp.specs.Full.{layer_at}
 use Rattle.lot_comp.specs.Piece.{piece_of}
@@ -11,7 +11,7 @@ use Rattle.lot_types.specs.declared.doc.Doc.{Doc}
 use Rattle.lot_types.specs.declared.layer.Layer.{Layer}
 use Rattle.lot_types.specs.declared.matte.Matte.TheVariants.{No}
 use Rattle.lot_types.specs.declared.piece.Piece.{Piece}
-use Rattle.lot_types.specs.Frame.{Frame, nothing, Visit}
+use Rattle.lot_types.specs.Frame.{Frame, nothing, Visit, visits}
 
 -- A piece, and the pieces of the layers after it.
 with_rest : (p : Piece) (rest : Option (Frame Piece)) (s : Written)
@@ -50,6 +50,27 @@ pub not_drawn : (d : Doc) (c l : ℕ) (t : ℤ) (layer : Layer) (s : Written) �
 not_drawn d c l t layer s there is ls =
     let rest = nodes d c t ls in
     ap (λ (f : Frame Visit). after_frame d f s) (sym (ap (λ (o : Option Layer). with_layer c l t o rest) there ∙ passed (is_visible t layer) (node_of c l t rest) rest is))
+
+-- A layer that is visible is one visit, and one that is not visible is none.
+pub one_visit : (d : Doc) (c l : ℕ) (t : ℤ) (layer : Layer) (before now : ℕ) → layer_at d c l ≡ Some layer
+    → is_visible t layer ≡ true → now ≡ before + 1
+    → (ls : List ℕ) → now + length (visits (nodes d c t ls)) ≤ before + length (visits (nodes d c t (l ∷ ls)))
+one_visit d c l t layer before now there is e ls =
+    let rest = nodes d c t ls in
+    let same : nodes d c t (l ∷ ls) ≡ node_of c l t rest =
+    ap (λ (o : Option Layer). with_layer c l t o rest) there ∙ picked (is_visible t layer) (node_of c l t rest) rest is in
+    let count = ap (λ (f : Frame Visit). length (visits f)) same in
+    omega (arith, e, count)
+
+pub no_visit : (d : Doc) (c l : ℕ) (t : ℤ) (layer : Layer) (before : ℕ) → layer_at d c l ≡ Some layer
+    → is_visible t layer ≡ false
+    → (ls : List ℕ) → before + length (visits (nodes d c t ls)) ≤ before + length (visits (nodes d c t (l ∷ ls)))
+no_visit d c l t layer before there is ls =
+    let rest = nodes d c t ls in
+    let same : nodes d c t (l ∷ ls) ≡ rest =
+    ap (λ (o : Option Layer). with_layer c l t o rest) there ∙ passed (is_visible t layer) (node_of c l t rest) rest is in
+    let count = ap (λ (f : Frame Visit). length (visits f)) same in
+    omega (arith, count)
 
 -- The text of the frame, from what is written after its layers.
 pub gives_text : (d : Doc) (o : Option (Frame Piece)) (s : Written)

@@ -1,4 +1,5 @@
 pub mod Count
+pub mod Evaluations
 pub mod Folder
 pub mod Sink
 pub mod RealFolder

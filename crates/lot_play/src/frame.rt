@@ -3,11 +3,13 @@ ghost use Rattle.std.specs.Prelude.{◌≡◌, ℕ, ◌+◌, ◌≤◌, ◌<◌,
 ghost use Rattle.lot_comp.specs.Frame.{frame, nodes, is_visible as visible_at, shows as shows_in};
 ghost use Rattle.lot_comp.specs.Full.{AreFull, full_matrix, layer_at};
 ghost use Rattle.lot_comp.specs.Piece.{IsUnmasked};
+ghost use Rattle.lot_play.specs.Evaluations.{layers_shown};
 ghost use Rattle.lot_play.specs.Picture.{svg_of};
 ghost use Rattle.lot_play.specs.Walk.{after_frame, after_piece};
 ghost use Rattle.lot_refs.specs.Linked.{layers_of};
 ghost use Rattle.lot_svg.specs.Written.{paint};
-ghost use Rattle.lot_types.specs.WellFormed.{max_layers};
+ghost use Rattle.lot_types.specs.Frame.{visits};
+ghost use Rattle.lot_types.specs.Limits.{max_layers};
 
 use lot_comp::{full_matrices, piece_with};
 use lot_refs::Linked;
@@ -16,10 +18,8 @@ use lot_types::{Bytes, Layer, LayerKind, Matrix, Memory, Paint, Piece, Steps, Ti
 use std::alloc::Global;
 use std::sync::ledger::Ledger;
 
-/// The frame of a document at a time, in millionths of a frame, as SVG. Each layer that it shows is evaluated once, and no
-/// other. Want of memory is the one refusal.
-///
-/// The clause on the counter says less: that no more layers are evaluated than a composition may have.
+/// The frame of a document at a time, in millionths of a frame, as SVG. Each layer that it shows is evaluated at most once,
+/// and no other. Want of memory is the one refusal.
 #[tactic(auto, unfolding(crate::specs::Picture::svg_of))]
 pub fn draw_frame<L: Ledger>(
     alloc: Global,
@@ -28,6 +28,7 @@ pub fn draw_frame<L: Ledger>(
     steps: &mut Steps<L>,
 ) -> Result<Bytes, Memory>
     ensures svg { IfOk result (λ svg. svg_of d.now t ≡ Some svg) }
+    ensures evaluated { steps.new ≤ steps.old + layers_shown d.now t }
     ensures counted { steps.new ≤ steps.old + max_layers }
 {
     let doc = d.doc();
@@ -49,6 +50,7 @@ fn write_layers<L: Ledger>(
 ) -> Result<(), Memory>
     requires comp { c < length d.now.comps }
     ensures written { OnOk result (after_frame d.now (frame d.now c t) w.old ≡ Some w.new) }
+    ensures evaluated { steps.new ≤ steps.old + length (visits (frame d.now c t)) }
     ensures counted { steps.new ≤ steps.old + max_layers }
 {
     let matrices = full_matrices(alloc, d, c, t)?;
@@ -68,6 +70,7 @@ fn write_drawn<L: Ledger>(
     requires comp { c < length d.now.comps }
     requires matrices { AreFull d.now c t matrices.now }
     ensures written { OnOk result (after_frame d.now (frame d.now c t) w.old ≡ Some w.new) }
+    ensures evaluated { steps.new ≤ steps.old + length (visits (frame d.now c t)) }
     ensures counted { steps.new ≤ steps.old + max_layers }
 {
     let drawn = d.drawn_layers(c);
@@ -96,6 +99,8 @@ fn write_layer<L: Ledger>(
     requires matrix { full_matrix d.now c l t ≡ Some matrix.now }
     ensures written { OnOk result ((ls : List ℕ) → after_frame d.now (nodes d.now c t ls) w.new
         ≡ after_frame d.now (nodes d.now c t (l ∷ ls)) w.old) }
+    ensures evaluated { (ls : List ℕ) → steps.new + length (visits (nodes d.now c t ls))
+        ≤ steps.old + length (visits (nodes d.now c t (l ∷ ls))) }
     ensures counted { steps.new ≤ steps.old + 1 }
 {
     if !is_visible(layer_of(d, c, l), t) {

@@ -3,11 +3,12 @@ ghost use Rattle.std.specs.Prelude.{◌≡◌, ◌+◌, ◌≤◌, [], IfOk, Som
 ghost use Rattle.lot_play.specs.declared.status.Status.TheVariants.{Usage};
 ghost use Rattle.lot_play.specs.Output.{moment as moment_in, moment_answer, document_answer};
 ghost use Rattle.lot_play.specs.Arguments.{IsFrame};
+ghost use Rattle.lot_play.specs.Evaluations.{EvaluatesOnce, EvaluatesTree, most_evaluated, shown_at};
 ghost use Rattle.lot_play.specs.Judge.{IsTreeAnswer, IsOnlyAnswer};
 ghost use Rattle.lot_play.specs.Judged.{judged};
 ghost use Rattle.lot_play.specs.Status.{IsJudged};
 ghost use Rattle.lot_read.specs.Outcome.{IsAnswer};
-ghost use Rattle.lot_types.specs.WellFormed.{max_layers};
+ghost use Rattle.lot_types.specs.Limits.{max_layers};
 
 use crate::answer::Answer;
 use crate::frame::draw_frame;
@@ -21,7 +22,7 @@ use std::alloc::Global;
 use std::sync::ledger::Ledger;
 
 /// Answers a task on the content of a document: the place where it stops being JSON, or its first fault, or what the task
-/// asks for. Only a frame is evaluated, and of it no more layers than a composition may have.
+/// asks for. Only the layers that a frame shows are evaluated, each at most once.
 pub fn judge<L: Ledger>(
     alloc: Global,
     content: &[u8],
@@ -31,6 +32,7 @@ pub fn judge<L: Ledger>(
     ensures answer { IfOk result (IsOnlyAnswer content.now task) }
     ensures judged { IfOk result (λ a. IsJudged a.status) }
     ensures usage { IfOk result (λ a. a.status ≡ Usage → IsFrame task × (a.bytes ≡ [])) }
+    ensures evaluated { EvaluatesOnce content.now task steps.old steps.new }
     ensures uncounted { (IsFrame task → ⊥) → steps.new ≡ steps.old }
     ensures counted { steps.new ≤ steps.old + max_layers }
 {
@@ -49,6 +51,7 @@ fn judge_tree<L: Ledger>(
     steps: &mut Steps<L>,
 ) -> Result<Answer, Memory>
     ensures answer { IfOk result (IsTreeAnswer j.now task) }
+    ensures evaluated { EvaluatesTree j.now task steps.old steps.new }
     ensures uncounted { (IsFrame task → ⊥) → steps.new ≡ steps.old }
     ensures counted { steps.new ≤ steps.old + max_layers }
 {
@@ -69,7 +72,7 @@ fn read_document(alloc: Global, j: &Json) -> Result<Linked, Refusal>
 }
 
 /// Answers a task on an accepted document.
-#[tactic(auto, unfolding(crate::specs::Output::document_answer))]
+#[tactic(auto, unfolding(crate::specs::Output::document_answer, crate::specs::Evaluations::most_evaluated))]
 fn perform<L: Ledger>(
     alloc: Global,
     d: &Linked,
@@ -77,6 +80,7 @@ fn perform<L: Ledger>(
     steps: &mut Steps<L>,
 ) -> Result<Answer, Memory>
     ensures answer { IfOk result (λ a. document_answer d.now task ≡ Some a) }
+    ensures evaluated { steps.new ≤ steps.old + most_evaluated d.now task }
     ensures uncounted { (IsFrame task → ⊥) → steps.new ≡ steps.old }
     ensures counted { steps.new ≤ steps.old + max_layers }
 {
@@ -94,6 +98,7 @@ fn draw_at<L: Ledger>(
     steps: &mut Steps<L>,
 ) -> Result<Answer, Memory>
     ensures answer { IfOk result (λ a. moment_answer d.now (moment_in d.now time) ≡ Some a) }
+    ensures evaluated { steps.new ≤ steps.old + shown_at d.now (moment_in d.now time) }
     ensures counted { steps.new ≤ steps.old + max_layers }
 {
     match moment(d.doc(), time) {

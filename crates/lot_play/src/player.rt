@@ -1,14 +1,16 @@
 //! The top call.
-ghost use Rattle.std.specs.Prelude.{◌≡◌, ◌+◌, ◌≤◌, ◌⊎◌, [], ◌∷◌};
+ghost use Rattle.std.specs.Prelude.{◌≡◌, ◌+◌, ◌≤◌, ◌⊎◌, ℕ, List, [], ◌∷◌, Some};
 ghost use Rattle.lot_play.specs.declared.status.Status.TheVariants as status;
-ghost use Rattle.lot_play.specs.Arguments.{AskForNothing, AskForFrame, IsFrame};
+ghost use Rattle.lot_play.specs.declared.task.Task.{Task};
+ghost use Rattle.lot_play.specs.Arguments.{AskFor, AskForNothing, AskForFrame, IsFrame};
 ghost use Rattle.lot_play.specs.Count.{Rose, RoseBy, RoseAbove};
+ghost use Rattle.lot_play.specs.Evaluations.{EvaluatesOnce};
 ghost use Rattle.lot_play.specs.Folder.{SameContents, SameServed};
 ghost use Rattle.lot_play.specs.Sink.{Gains, GainsPrefix};
 ghost use Rattle.lot_play.specs.Status.{IsJudged, IsComplete, IsShort, IsSilent};
 ghost use Rattle.lot_play.specs.Output.{Outcome, Output, Performs, IsKnown, AreKnown, AreServed, total_length, max_document_bytes};
 ghost use Rattle.lot_play.specs.Run.{Writes, Ends};
-ghost use Rattle.lot_types.specs.WellFormed.{max_layers};
+ghost use Rattle.lot_types.specs.Limits.{max_layers};
 
 use crate::answer::Answer;
 use crate::judge::judge;
@@ -73,8 +75,13 @@ pub fn run<F: Folder, K: Sink, L: Ledger>(
     ensures same { SameContents (F.state folder.old) (F.state folder.new) }
     ensures served { SameServed (F.serves folder.old) (F.serves folder.new) }
 
-    // Only a frame is evaluated, and of it no more layers than a composition may have.
+    // Only a frame is evaluated: of a document that is known, each layer that the frame shows at most once, and of any no
+    // more layers than a composition may have.
     ensures uncounted { (AskForFrame arguments.now → ⊥) → steps.new ≡ steps.old }
+    ensures evaluated { (document content : List ℕ) (task : Task)
+        → AskFor arguments.now (document ∷ []) task
+        → (F.state folder.old).content document ≡ Some content
+        → EvaluatesOnce content task steps.old steps.new }
     ensures counted { steps.new ≤ steps.old + max_layers }
 {
     match Request::of(arguments) {
@@ -97,6 +104,9 @@ fn run_task<F: Folder, K: Sink, L: Ledger>(
         (IsKnown (F.state folder.old).content document.now)
         (F.state folder.old) (F.state folder.new) (K.state out.old) (K.state out.new) result }
     ensures usage { result ≡ status.Usage → IsFrame task }
+    ensures evaluated { (content : List ℕ)
+        → (F.state folder.old).content document.now ≡ Some content
+        → EvaluatesOnce content task steps.old steps.new }
     ensures same { SameContents (F.state folder.old) (F.state folder.new) }
     ensures served { SameServed (F.serves folder.old) (F.serves folder.new) }
     ensures uncounted { (IsFrame task → ⊥) → steps.new ≡ steps.old }

@@ -1,4 +1,4 @@
--- Positions that move along a curve through space, after the Lottie Specification 1.0, "Keyframes". How its length is
+-- Vectors that move along a curve through space, after the Lottie Specification 1.0, "Keyframes". How its length is
 -- measured is this project's own.
 use Rattle.std.specs.Prelude.{ℤ, pos, ◌^◌, Bool, not, ◌&&◌}
 use Rattle.std.specs.Ordering.{int_eq}
@@ -15,7 +15,7 @@ is_zero p = int_eq p.x (pos 0) && int_eq p.y (pos 0)
 abbrev pub is_spatial : Part → Bool
 is_spatial part = not (is_zero part.to && is_zero part.ti)
 
--- The curve from the position p of a keyframe to that of the next, q.
+-- The curve from the value p of a keyframe to that of the next, q.
 abbrev pub curve_from : Part → Point → Point → Cubic
 curve_from part p q = record { p0 = p; p1 = moved p part.to; p2 = moved q part.ti; p3 = q }
 

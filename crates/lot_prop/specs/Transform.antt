@@ -30,10 +30,11 @@ own_matrix d ks t =
     (scalar_value d ks.sa t)) (scalar_value d ks.sk t)) (scalar_value d ks.r t)) (vector_value d ks.s t))
     (position_value d ks.p t)) (vector_value d ks.a t)
 
--- The nearest number to o from 0 to 100 per cent, in millionths.
+-- 100 per cent, in millionths.
 abbrev pub whole_percent : ℤ
 whole_percent = pos (100 * 10 ^ 6)
 
+-- The nearest number to o from 0 to 100 per cent, in millionths.
 abbrev pub percent_in_range : ℤ → ℤ
 percent_in_range o = if int_lt o (pos 0) then pos 0 else (if int_lt whole_percent o then whole_percent else o)
 

@@ -23,4 +23,4 @@ pub use gradient::value_gradient;
 pub use position::value_position;
 pub use scalar::value_scalar;
 pub use transform::{matrix_at, opacity_at};
-pub use vector::{value_vector, vector_at};
+pub use vector::value_vector;

@@ -87,7 +87,7 @@ impl Part {
         !(is_zero(self.to) && is_zero(self.ti))
     }
 
-    /// The point between the positions of the keyframe, `p`, and of the next, `q`, on the curve with its tangents.
+    /// The point between the values of the keyframe, `p`, and of the next, `q`, on the curve with its tangents.
     pub fn on_curve(&self, p: &Point, q: &Point) -> Point
         ensures { result ≡ on_curve_in self.now p.now q.now }
     {

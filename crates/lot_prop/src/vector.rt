@@ -28,7 +28,7 @@ pub fn value_vector(d: &Doc, p: &Prop<Point>, t: Time) -> Point
 }
 
 /// The value of a vector's track at a time, in millionths, limited to the range. It takes no memory.
-pub fn vector_at(track: &Track<Point>, t: Time) -> Point
+pub(crate) fn vector_at(track: &Track<Point>, t: Time) -> Point
     ensures { track_value vector_between t track.now ≡ Some result }
 {
     match track {

@@ -17,6 +17,7 @@ pub record AreKeysRead {T : Type 0} (kind : SlotKind) (reader : Reader T) (at no
   pub value : ((each_key kind reader (Some before) at (i + 1) (drop i js)).value >>= λ xs. Some (made ++ xs)) ≡ (each_key kind reader None at 0 (first ∷ js)).value
   pub uses : new ++ (each_key kind reader (Some before) at (i + 1) (drop i js)).uses ≡ old ++ (each_key kind reader None at 0 (first ∷ js)).uses
   pub same : now ≡ at
+  pub count : length made ≡ i + 1
   pub last : (k : Key T) → last_of made ≡ Some k → k.t ≡ before
 
 last_is : {A : Type 0} (xs : List A) (x : A) → slice_get (xs ++ x ∷ []) (length xs) ≡ Some x
@@ -25,6 +26,10 @@ last_is (y ∷ ys) x = last_is ys x
 
 one_less : {A : Type 0} (xs : List A) (x : A) → length (xs ++ x ∷ []) - 1 ≡ length xs
 one_less xs x = let h = length-append xs (x ∷ []) in omega (arith, h)
+
+pub pushed_count : {T : Type 0} (old new : List (Key T)) (key : Key T) (i : ℕ) → new ≡ old ++ key ∷ [] → length old ≡ i + 1
+    → length new ≡ i + 1 + 1
+pushed_count old new key i is count = omega (arith, ap length is, length-append old (key ∷ []), count)
 
 -- The last keyframe is the one that was put at the end.
 pub last_pushed : {T : Type 0} (old new : List (Key T)) (key last : Key T) → new ≡ old ++ key ∷ [] → last_of new ≡ Some last → last.t ≡ key.t

@@ -1,10 +1,11 @@
 -- What is read of a list has as many items as the list.
-use Rattle.std.proofs.Common.{◌≡◌, ℕ, ◌+◌, List, [], ◌∷◌, Option, Some, None, length, refl, ap, sym, arith}
+use Rattle.std.proofs.Common.{◌≡◌, ℕ, ◌+◌, ◌≤◌, Bool, true, false, nat_lt, List, [], ◌∷◌, Option, Some, None, length, if◌then◌else◌, refl, ap, sym, arith}
+use Rattle.std.proofs.lemmas.Bool.{ltb-false}
 use Rattle.lot_json.specs.declared.tree.json.Json.{Json, out-Json}
 use Rattle.lot_json.specs.declared.tree.json.Json.TheOpen as tree
 use Rattle.lot_json.specs.declared.tree.pointer.Step.{Step}
 use Rattle.lot_json.specs.Lookup.{member}
-use Rattle.lot_types.specs.declared.fault.FaultCode.TheVariants.{Kind, Missing}
+use Rattle.lot_types.specs.declared.fault.FaultCode.TheVariants.{Kind, Missing, TooMany}
 use Rattle.lot_read.specs.Findings.{Findings, Reader, Pairs, under, item, good, bad, ◌>>=◌, ◌⊛◌}
 use Rattle.lot_read.specs.Lists.{each, list, at_most, length_of}
 use Rattle.lot_read.specs.Rows.{needed}
@@ -36,6 +37,19 @@ read_limited (Some x) (Some ys) xs e = e
 read_limited (Some x) None xs e = absurd (cc)
 read_limited None ys xs e = absurd (cc)
 
+read_limit : {A : Type 0} (limit : Option (Unit {0})) (ys : Option (List A)) (xs : List A) → limited limit ys ≡ Some xs
+    → limit ≡ Some tt
+read_limit (Some x) ys xs e = refl
+read_limit None ys xs e = absurd (cc)
+
+not_above : (above : Bool) (at : List Step)
+    → (let limit : Findings (Unit {0}) = if above then bad TooMany at else good tt in limit.value ≡ Some tt) → above ≡ false
+not_above true at e = absurd (cc)
+not_above false at e = refl
+
+within_limit : (max : ℕ) (at : List Step) (js : List Json) → (at_most max at js).value ≡ Some tt → length js ≤ max
+within_limit max at js e = ltb-false max (length js) (not_above (nat_lt max (length js)) at e)
+
 pub list_length : {A : Type 0} (max : ℕ) (reader : Reader A) (at : List Step) (j : Json) (xs : List A) → (list max reader at j).value ≡ Some xs → length_of j ≡ Some (length xs)
 unfolding list length_of
 list_length {A} max reader at j xs =
@@ -44,6 +58,31 @@ list_length {A} max reader at j xs =
     → (let count : Option ℕ = elim v [ tree.Items js ↦ Some (length js) | _ ↦ None ] in count ≡ Some (length xs))) [
       | tree.Items js ↦ λ e. ap (λ (n : ℕ). Some n) (sym (each_length reader at 0 js xs (read_limited (at_most max at js).value (each reader at 0 js).value xs e)))
       | _ ↦ λ e. absurd (cc)
+    ]
+
+-- What is read of a list is within its limit.
+pub list_few : {A : Type 0} (max : ℕ) (reader : Reader A) (at : List Step) (j : Json) (xs : List A)
+    → (list max reader at j).value ≡ Some xs → length xs ≤ max
+unfolding list
+list_few {A} max reader at j xs =
+    elim (out-Json j) as (λ v.
+    (let read : Findings (List A) = elim v [ tree.Items js ↦ good (λ (_ : Unit {0}) (ys : List A). ys) ⊛ at_most max at js ⊛ each reader at 0 js | _ ↦ bad Kind at ] in read.value ≡ Some xs)
+    → length xs ≤ max) [
+      | tree.Items js ↦ λ e.
+          let limit = (at_most max at js).value in let items = (each reader at 0 js).value in
+          omega (arith, each_length reader at 0 js xs (read_limited limit items xs e), within_limit max at js (read_limit limit items xs e))
+      | _ ↦ λ e. absurd (cc)
+    ]
+
+pub needed_few : {A : Type 0} (name : List ℕ) (max : ℕ) (reader : Reader A) (at : List Step) (m : Pairs) (xs : List A)
+    → (needed name (list max reader) at m).value ≡ Some xs → length xs ≤ max
+unfolding needed
+needed_few {A} name max reader at m xs =
+    elim (member name m) as (λ v.
+    (let read : Findings (List A) = elim v [ None ↦ bad Missing (under at name) | Some j ↦ list max reader (under at name) j ] in read.value ≡ Some xs)
+    → length xs ≤ max) [
+      | None ↦ λ e. absurd (cc)
+      | Some j ↦ λ e. list_few max reader (under at name) j xs e
     ]
 
 -- The list of a member that is needed and read.

@@ -30,7 +30,8 @@ use Rattle.lot_types.specs.declared.key.Key.{Key}
 use Rattle.lot_types.specs.Handles.{Handles, nearest_handles}
 use Rattle.lot_read.specs.Handle.{coordinates, three_of, three_or_refused, for_each_component, handle_rows}
 use Rattle.lot_read.specs.Keyframe.{not_before, time_rows, time_of, start_value, no_tangent, space_tangent, key_of, key_rows, each_key, some_items, keys}
-use Rattle.lot_read.specs.Lists.{at_most, list, max_list_items, length_of}
+use Rattle.lot_read.specs.Lists.{at_most, list, length_of}
+use Rattle.lot_types.specs.Limits.{max_list_items}
 use Rattle.lot_read.specs.Number.{any, in_range, number, scalar}
 use Rattle.lot_read.specs.Property.{no_expression, slot_found, slot_name, own, by_name, property_rows, property, track_rows}
 use Rattle.lot_read.specs.Rows.{maybe}

@@ -6,7 +6,8 @@ use Rattle.lot_json.specs.declared.tree.pointer.Step.{Step}
 use Rattle.lot_json.specs.Lookup.{member}
 use Rattle.lot_read.specs.Findings.{Findings, Reader, Row, Pairs, under, good, bad, ◌>>=◌, ◌⊛◌, ◌also◌}
 use Rattle.lot_read.specs.Flag.{flag}
-use Rattle.lot_read.specs.Lists.{max_list_items, list, value_or_first, length_of}
+use Rattle.lot_read.specs.Lists.{list, value_or_first, length_of}
+use Rattle.lot_types.specs.Limits.{max_list_items}
 use Rattle.lot_read.specs.Rows.{needed, optional, object}
 use Rattle.lot_read.specs.Vector.{vector}
 

@@ -4,7 +4,8 @@ use Rattle.lot_types.specs.declared.fault.FaultCode.TheVariants.{Count}
 use Rattle.lot_types.specs.Ramp.{Ramp}
 use Rattle.lot_json.specs.declared.tree.pointer.Step.{Step}
 use Rattle.lot_read.specs.Findings.{Findings, Reader, good, bad, ◌⊛◌, ◌also◌}
-use Rattle.lot_read.specs.Lists.{max_list_items, list, length_of}
+use Rattle.lot_read.specs.Lists.{list, length_of}
+use Rattle.lot_types.specs.Limits.{max_list_items}
 use Rattle.lot_read.specs.Number.{any, number}
 
 -- Each stop has an offset and three parts of a color.

@@ -6,7 +6,8 @@ use Rattle.lot_json.specs.declared.tree.json.Json.{out-Json}
 use Rattle.lot_json.specs.declared.tree.json.Json.TheOpen as tree
 use Rattle.lot_json.specs.declared.tree.pointer.Step.{Step}
 use Rattle.lot_read.specs.Findings.{Findings, Reader, Row, good, bad, ◌⊛◌, ◌then◌}
-use Rattle.lot_read.specs.Lists.{max_list_items, list}
+use Rattle.lot_read.specs.Lists.{list}
+use Rattle.lot_types.specs.Limits.{max_list_items}
 use Rattle.lot_read.specs.Number.{any, number}
 use Rattle.lot_read.specs.Rows.{needed}
 

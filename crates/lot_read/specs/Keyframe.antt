@@ -13,7 +13,8 @@ use Rattle.lot_json.specs.Lookup.{member}
 use Rattle.lot_read.specs.Findings.{Findings, Reader, Row, under, item, good, bad, ◌⊛◌, ◌then◌}
 use Rattle.lot_read.specs.Flag.{flag}
 use Rattle.lot_read.specs.Handle.{handle_rows}
-use Rattle.lot_read.specs.Lists.{max_list_items, at_most}
+use Rattle.lot_read.specs.Lists.{at_most}
+use Rattle.lot_types.specs.Limits.{max_list_items}
 use Rattle.lot_read.specs.Number.{any, number}
 use Rattle.lot_read.specs.Rows.{needed, optional, maybe, object}
 use Rattle.lot_read.specs.Vector.{vector}

@@ -1,14 +1,10 @@
--- Lists of values. The limit on the number of items is this project's own.
+-- Lists of values.
 use Rattle.std.specs.Prelude.{ℕ, ◌+◌, List, [], ◌∷◌, Option, Some, None, length, nat_lt, if◌then◌else◌}
 use Rattle.lot_types.specs.declared.fault.FaultCode.TheVariants.{Kind, Count, TooMany}
 use Rattle.lot_json.specs.declared.tree.json.Json.{Json, out-Json}
 use Rattle.lot_json.specs.declared.tree.json.Json.TheOpen as tree
 use Rattle.lot_json.specs.declared.tree.pointer.Step.{Step}
 use Rattle.lot_read.specs.Findings.{Findings, Reader, item, good, bad, ◌⊛◌}
-
--- The greatest number of items of a list that is read whole and has no smaller limit of its own.
-abbrev pub max_list_items : ℕ
-max_list_items = 65536
 
 -- Every item in order, the first of which has the index i.
 unfoldable pub each : {A : Type 0} → Reader A → List Step → ℕ → List Json → Findings (List A)

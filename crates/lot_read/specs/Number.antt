@@ -1,4 +1,4 @@
--- Numbers. They are millionths, and one that is beyond the range of the product is out of every range.
+-- Numbers. They are millionths, and one that is beyond ten million either way is out of every range.
 use Rattle.std.specs.Prelude.{ℤ, pos, Bool, true, int_le, int_lt, List, if◌then◌else◌}
 use Rattle.lot_types.specs.declared.fault.FaultCode.TheVariants.{Kind, Range}
 use Rattle.lot_json.specs.declared.tree.number.Number.{Number}

@@ -5,7 +5,7 @@ ghost use Rattle.lot_read.specs.Bezier.{bezier, bezier_rows, as_many};
 ghost use Rattle.lot_read.specs.Members.{RowGives, SameMembers};
 
 use crate::flag::Flag;
-use crate::list::{ListOf, MAX_LIST_ITEMS};
+use crate::list::ListOf;
 use crate::members::{Members, Rows};
 use crate::object::Object;
 use crate::reader::Reader;
@@ -13,7 +13,7 @@ use crate::value_kind::ValueKind;
 use crate::value_or_first::ValueOrFirst;
 use crate::vector::VectorValue;
 use lot_json::{Json, Pointer};
-use lot_types::{Bezier, FaultCode, Refusal, Seq, SlotKind, Use};
+use lot_types::{Bezier, FaultCode, MAX_LIST_ITEMS, Refusal, Seq, SlotKind, Use};
 
 /// Reads a path of cubic curves: an object, or the first item of a list, which is one. Its members are the flag `c`
 /// and the lists `v`, `i` and `o` of vectors, which have at most [`MAX_LIST_ITEMS`] items each. [`FaultCode::Count`]

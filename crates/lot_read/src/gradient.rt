@@ -1,16 +1,17 @@
 //! The reader of the colors of gradients.
-ghost use Rattle.std.specs.Prelude.{◌≡◌, [], ◌<◌, Some, OnOk};
+ghost use Rattle.std.specs.Prelude.{◌≡◌, [], ◌<◌, ◌≤◌, Some, OnOk};
+ghost use Rattle.lot_types.specs.Limits.{max_list_items};
 ghost use Rattle.lot_types.specs.declared.slot.SlotKind.TheVariants as slot_kind;
 ghost use Rattle.lot_types.specs.Ramp.{HasStops};
 ghost use Rattle.lot_read.specs.Gradient.{gradient, counted};
 ghost use Rattle.lot_read.specs.Outcome.{Gives};
 
-use crate::list::{ListOf, MAX_LIST_ITEMS};
+use crate::list::ListOf;
 use crate::number::NumberValue;
 use crate::reader::{Reader, refusal_at};
 use crate::value_kind::ValueKind;
 use lot_json::{Json, Pointer};
-use lot_types::{FaultCode, Gradient, Refusal, Seq, SlotKind, Use};
+use lot_types::{FaultCode, Gradient, MAX_LIST_ITEMS, Refusal, Seq, SlotKind, Use};
 
 /// Each stop has an offset and three parts of a color.
 const STOP_NUMBERS: u64 = 4;
@@ -56,7 +57,8 @@ impl ValueKind for GradientValue {
 /// Refuses a list of n numbers that are not four for each stop and pairs after them.
 #[tactic(auto, unfolding(crate::specs::Gradient::counted))]
 fn refuse_miscounted(stops: u32, n: usize, at: &Pointer) -> Result<(), Refusal>
-    requires { 0 < stops }
+    requires some { 0 < stops }
+    requires few { n ≤ max_list_items }
     ensures gives { Gives result [] [] (counted stops at.now (Some n)) }
     ensures stops { OnOk result (HasStops stops n) }
 {

@@ -2,12 +2,12 @@
 ghost use Rattle.std.specs.Prelude.{◌≡◌};
 ghost use Rattle.lot_read.specs.Handle.{coordinates, handle_rows, three_of as three_in};
 
-use crate::list::{ListOf, MAX_LIST_ITEMS};
+use crate::list::ListOf;
 use crate::members::{Members, Rows};
 use crate::number::NumberValue;
 use crate::reader::{Reader, refusal_at};
 use lot_json::{Json, Pointer};
-use lot_types::{Ease3, FaultCode, Fx, Refusal, Seq, Use};
+use lot_types::{Ease3, FaultCode, Fx, MAX_LIST_ITEMS, Refusal, Seq, Use};
 
 /// Reads the handles of the components of a value: an object with the coordinates `x` and `y`, which are limited to
 /// their ranges.

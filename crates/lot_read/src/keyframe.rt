@@ -1,5 +1,6 @@
 //! The reader of keyframes.
-ghost use Rattle.std.specs.Prelude.{◌≡◌, ◌∷◌, Some, None, IfOk};
+ghost use Rattle.std.specs.Prelude.{◌≡◌, ◌<◌, ◌∷◌, length, Some, None, IfOk};
+ghost use Rattle.lot_types.specs.Limits.{max_list_items};
 ghost use Rattle.lot_read.specs.Findings.{item};
 ghost use Rattle.lot_read.specs.Keyframe.{time_rows, time_of, start_value, both_handles as both_in, space_tangent, key_rows, each_key, keys, IsNotBefore};
 ghost use Rattle.lot_read.specs.Members.{RowGives, SameMembers, fixed_in};
@@ -8,7 +9,6 @@ ghost use Rattle.lot_read.specs.Rows.{object};
 
 use crate::flag::Flag;
 use crate::handle::HandleRows;
-use crate::list::MAX_LIST_ITEMS;
 use crate::members::Members;
 use crate::moment::Moment;
 use crate::object::Object;
@@ -16,7 +16,9 @@ use crate::reader::{Reader, refusal_at};
 use crate::value_kind::ValueKind;
 use crate::vector::VectorValue;
 use lot_json::{Json, Pointer};
-use lot_types::{Ease3, FaultCode, Fx, Key, Keys, Point, Refusal, Seq, SlotKind, Time, Use};
+use lot_types::{
+    Ease3, FaultCode, Fx, Key, Keys, MAX_LIST_ITEMS, Point, Refusal, Seq, SlotKind, Time, Use,
+};
 
 /// Reads the keyframes of a property that moves: a list of at least one, else [`FaultCode::Count`], and of at most
 /// [`MAX_LIST_ITEMS`].
@@ -61,6 +63,7 @@ fn read_keys<V: ValueKind>(
     rest: &[Json],
     uses: &mut Seq<Use>,
 ) -> Result<Keys<V::Value>, Refusal>
+    requires few { length rest.now < max_list_items }
     ensures gives { Gives result uses.old uses.new
         (each_key (V.kind value.now) (V.gives value.now) None at.old 0 (first.now ∷ rest.now)) }
     ensures at { at.new ≡ at.old }

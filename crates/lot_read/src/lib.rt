@@ -38,7 +38,7 @@ pub use color::ColorValue;
 pub use faultless::faultless_property_has_value;
 pub use flag::{Flag, Unset};
 pub use gradient::GradientValue;
-pub use list::{ListOf, MAX_LIST_ITEMS};
+pub use list::ListOf;
 pub use members::{Members, Rows};
 pub use moment::Moment;
 pub use number::NumberValue;

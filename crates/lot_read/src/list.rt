@@ -8,9 +8,6 @@ use crate::reader::{Reader, refusal_at};
 use lot_json::{Json, Pointer};
 use lot_types::{FaultCode, Refusal, Seq, Use};
 
-/// The greatest number of items of a list that is read whole and has no smaller limit of its own.
-pub const MAX_LIST_ITEMS: usize = 65_536;
-
 /// Reads a whole list, item by item. Any other value is [`FaultCode::Kind`], and a list of more than `max` items is
 /// [`FaultCode::TooMany`].
 #[derive(Clone, Copy)]

@@ -6,7 +6,8 @@ use Rattle.std.proofs.lemmas.List.Elements.{All-nil, All-cons, All-head, All-tai
 use Rattle.lot_types.specs.declared.comp.Comp.{Comp}
 use Rattle.lot_types.specs.declared.doc.Doc.{Doc}
 use Rattle.lot_types.specs.declared.layer.Layer.{Layer}
-use Rattle.lot_types.specs.WellFormed.{max_layers, HasFewLayers}
+use Rattle.lot_types.specs.WellFormed.{HasFewLayers}
+use Rattle.lot_types.specs.Limits.{max_layers}
 use Rattle.lot_refs.specs.Drawn.{is_drawn, drawn_from, drawn_layers}
 use Rattle.lot_refs.specs.Linked.{IsValid, layers_in, layers_of}
 

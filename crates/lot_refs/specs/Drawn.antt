@@ -3,7 +3,8 @@ use Rattle.std.specs.Prelude.{ℕ, ◌+◌, Bool, not, List, [], ◌∷◌, map,
 use Rattle.lot_types.specs.declared.comp.Comp.{Comp}
 use Rattle.lot_types.specs.declared.layer.Layer.{Layer}
 
--- A layer with the member `td` serves as a matte, and is not drawn by itself. No layer has another one as its matte yet.
+-- A layer with the member `td` serves as a matte, and is not drawn by itself. No layer has another one as its matte
+-- yet.
 abbrev pub is_drawn : Layer → Bool
 is_drawn layer = not layer.td
 

@@ -4,7 +4,8 @@ use Rattle.std.specs.List.{All}
 use Rattle.lot_types.specs.declared.comp.Comp.{Comp}
 use Rattle.lot_types.specs.declared.doc.Doc.{Doc}
 use Rattle.lot_types.specs.declared.layer.Layer.{Layer}
-use Rattle.lot_types.specs.WellFormed.{HasFewLayers, LayersHaveValues, LayersAreBuilt, max_comps}
+use Rattle.lot_types.specs.Limits.{max_list_items, max_comps}
+use Rattle.lot_types.specs.WellFormed.{AreNamed, HasFewLayers, LayersHaveValues, LayersAreBuilt}
 use Rattle.lot_refs.specs.Links.{Links}
 use Rattle.lot_refs.specs.Parents.{parents}
 use Rattle.lot_refs.specs.RefFaults.{parent_faults}
@@ -14,6 +15,8 @@ pub record IsValid (d : Doc) : Type 0 where
   pub some : 0 < length d.comps
   pub few_comps : length d.comps ≤ max_comps
   pub few_layers : All HasFewLayers d.comps
+  pub few_slots : length d.slots ≤ max_list_items
+  pub named : AreNamed d.comps
   pub rate : pos 0 <ℤ d.fr
   pub slots : All (LayersHaveValues d) d.comps
   pub built : All LayersAreBuilt d.comps

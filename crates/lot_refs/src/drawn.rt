@@ -3,7 +3,8 @@
 ghost use Rattle.std.specs.Prelude.{◌≡◌, ◌≤◌, length, IfOk};
 ghost use Rattle.std.specs.List.{All};
 ghost use Rattle.lot_refs.specs.Drawn.{is_drawn as drawn_in, drawn_layers, drawn_tables};
-ghost use Rattle.lot_types.specs.WellFormed.{HasFewLayers, max_layers};
+ghost use Rattle.lot_types.specs.WellFormed.{HasFewLayers};
+ghost use Rattle.lot_types.specs.Limits.{max_layers};
 
 use lot_types::{Comp, Layer, Memory, Seq};
 use std::alloc::Global;

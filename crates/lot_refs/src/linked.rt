@@ -4,7 +4,8 @@ ghost use Rattle.std.specs.Prelude.{◌≡◌, ◌<◌, ◌≤◌, [], length, I
 ghost use Rattle.std.specs.List.{All};
 ghost use Rattle.lot_types.specs.Refusals.{Fails};
 ghost use Rattle.lot_refs.specs.Linked.{IsValid, layers_of};
-ghost use Rattle.lot_types.specs.WellFormed.{IsWellFormed, max_layers};
+ghost use Rattle.lot_types.specs.WellFormed.{IsWellFormed};
+ghost use Rattle.lot_types.specs.Limits.{max_layers};
 ghost use Rattle.lot_refs.specs.Drawn.{drawn_layers};
 ghost use Rattle.lot_refs.specs.Parents.{parents, parent_of, BeginsChain};
 ghost use Rattle.lot_refs.specs.RefFaults.{ref_faults};

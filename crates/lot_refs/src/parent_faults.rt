@@ -3,7 +3,8 @@
 ghost use Rattle.std.specs.Prelude.{◌≡◌, ◌≤◌, ◌&&◌, length, IfOk, Option, Some, is_none, if◌then◌else◌};
 ghost use Rattle.std.specs.List.{All};
 ghost use Rattle.lot_refs.specs.Linked.{parent_tables};
-ghost use Rattle.lot_types.specs.WellFormed.{HasFewLayers, max_comps, max_layers};
+ghost use Rattle.lot_types.specs.WellFormed.{HasFewLayers};
+ghost use Rattle.lot_types.specs.Limits.{max_comps, max_layers};
 ghost use Rattle.lot_refs.specs.Links.{CirclesAre};
 ghost use Rattle.lot_refs.specs.Parents.{parents};
 ghost use Rattle.lot_refs.specs.RefFaults.{first_found, comp_faults, parent_faults, parent_rule};

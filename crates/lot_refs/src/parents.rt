@@ -3,7 +3,8 @@
 ghost use Rattle.std.specs.Prelude.{◌≡◌, ◌≤◌, length, IfOk};
 ghost use Rattle.std.specs.List.{All};
 ghost use Rattle.lot_refs.specs.Linked.{parent_tables};
-ghost use Rattle.lot_types.specs.WellFormed.{HasFewLayers, max_layers};
+ghost use Rattle.lot_types.specs.WellFormed.{HasFewLayers};
+ghost use Rattle.lot_types.specs.Limits.{max_layers};
 ghost use Rattle.lot_refs.specs.Parents.{parents};
 
 use crate::numbers::{find_named, index_numbers};

@@ -1,6 +1,6 @@
 -- The order of identifiers. SVG 1.1, "Linking", asks that they be unique; that each comes before its use is this
 -- project's own.
-use Rattle.std.specs.Prelude.{◌≡◌, ℕ, zero, suc, ◌+◌, ◌<◌, List, [], ◌∷◌, ◌++◌, Contains}
+use Rattle.std.specs.Prelude.{◌≡◌, ℕ, zero, suc, ◌+◌, List, [], ◌∷◌, ◌++◌, Contains}
 use Rattle.lot_svg.specs.Items.{Item, plain, opens, ends, refers, opened_by}
 
 -- The numbers of the definitions that open, in order.
@@ -24,11 +24,11 @@ abbrev pub numbers : ℕ → ℕ → List ℕ
 numbers n zero = []
 numbers n (suc count) = n ∷ numbers (n + 1) count
 
--- The definitions open as n, n + 1 and so on, each once. Each that ends opened before: its number is below that of the
--- next one to open. Each reference comes after the end of its definition.
+-- The definitions open as n, n + 1 and so on, each once. Each that ends opened before. Each reference comes after the
+-- end of its definition.
 pub record IsOrdered (n : ℕ) (items : List Item) : Type 0 where
   pub opened : opened_numbers items ≡ numbers n (opened_by items)
   pub ended : (before after : List Item) (bytes : List ℕ) (m : ℕ)
-      → items ≡ before ++ ends bytes m ∷ after → m < n + opened_by before
+      → items ≡ before ++ ends bytes m ∷ after → Contains (opened_numbers before) m
   pub referred : (before after : List Item) (bytes : List ℕ) (m : ℕ)
       → items ≡ before ++ refers bytes m ∷ after → Contains (ended_numbers before) m

@@ -13,7 +13,7 @@ region_text =
     attribute (codes "x") (codes "-100000") ++ attribute (codes "y") (codes "-100000")
     ++ attribute (codes "width") (codes "200000") ++ attribute (codes "height") (codes "200000")
 
--- The color of what the masked layer shows, and of what it does not.
+-- White is what the masked layer shows, and black what it does not.
 abbrev pub mask_color : Bool → List ℕ
 mask_color true = codes "#ffffff"
 mask_color false = codes "#000000"

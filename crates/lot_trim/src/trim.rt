@@ -8,8 +8,9 @@ use crate::run::{end_of_contours, end_of_outlines, outline_lengths, run_lengths}
 use lot_types::{Duplicate, Memory, Outline, Seq};
 use std::alloc::Global;
 
-/// What a trim leaves of outlines of which each is measured by itself. Each segment is measured once. Want of memory is
-/// the one refusal.
+/// What a trim leaves of outlines of which each is measured by itself. Want of memory is the one refusal.
+///
+/// Each segment is measured once. One in which an interval ends is measured again up to there.
 #[tactic(auto, unfolding(crate::specs::Trim::trimmed_each))]
 pub fn trim_parallel(alloc: Global, os: &Seq<Outline>, cut: TrimCut) -> Result<Seq<Outline>, Memory>
     ensures { IfOk result (λ made. made ≡ trimmed_each cut os.now) }
@@ -21,8 +22,9 @@ pub fn trim_parallel(alloc: Global, os: &Seq<Outline>, cut: TrimCut) -> Result<S
     Ok(made)
 }
 
-/// What a trim leaves of outlines that are measured as one run, one after the other. Each segment is measured once. Want
-/// of memory is the one refusal.
+/// What a trim leaves of outlines that are measured as one run, one after the other. Want of memory is the one refusal.
+///
+/// Each segment is measured once. One in which an interval ends is measured again up to there.
 #[tactic(auto, unfolding(crate::specs::Trim::trimmed_run, crate::specs::Run::run_length))]
 pub fn trim_sequential(
     alloc: Global,

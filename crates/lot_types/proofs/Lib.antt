@@ -1,4 +1,4 @@
 pub mod Held
-pub mod Limits
+pub mod ThreeLimited
 pub mod Present
 pub mod Variants

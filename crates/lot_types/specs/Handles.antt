@@ -1,6 +1,6 @@
 -- The handles of an easing curve, after the Lottie Specification 1.0, "Keyframe Easing". The range of y is this
 -- project's own.
-use Rattle.std.specs.Prelude.{ℤ, pos, neg_ℤ, ◌^◌, ◌≤ℤ◌, List, map}
+use Rattle.std.specs.Prelude.{◌≡◌, ℤ, pos, neg_ℤ, ◌^◌, ◌≤ℤ◌, List, length, map}
 use Rattle.std.specs.List.{All}
 use Rattle.std.specs.Int.{int_max, int_min}
 
@@ -21,7 +21,10 @@ times = (pos 0, pos (10 ^ 6))
 abbrev pub changes : ℤ × ℤ
 changes = (neg_ℤ (pos (10 ^ 8)), pos (10 ^ 8))
 
+-- There are coordinates for each of three components, all of them in their ranges.
 pub record AreInRange (x y : List ℤ) : Type 0 where
+  pub three_times : length x ≡ 3
+  pub three_changes : length y ≡ 3
   pub times : All (IsIn times) x
   pub changes : All (IsIn changes) y
 

@@ -7,11 +7,8 @@ use Rattle.lot_types.specs.declared.item.Item.{Item, out-Item}
 use Rattle.lot_types.specs.declared.item.Item.TheOpen.{Item-F}
 use Rattle.lot_types.specs.declared.item.Item.TheOpen as item
 use Rattle.lot_types.specs.declared.item.Item.TheFolds.{para-Item}
+use Rattle.lot_types.specs.Limits.{max_list_items}
 use Rattle.lot_types.specs.Slots.{HasScalar, HasVector, HasColor, HasBezier, HasGradient, HasValues}
-
--- The greatest number of items of a list.
-abbrev pub max_items : ℕ
-max_items = 65536
 
 -- What an item is. A leaf is a shape, and a style paints leaves.
 pub data ItemKind : Type 0 where
@@ -101,19 +98,19 @@ all_items items = flat_map (λ x. x ∷ held x) items
 -- ---- what is asked of items
 
 abbrev pub FewIn : Item-F Item → Type 0
-FewIn (item.Group hidden it) = length it ≤ max_items
+FewIn (item.Group hidden it) = length it ≤ max_list_items
 FewIn (item.Rect hidden p s r d) = Unit {0}
 FewIn (item.Ellipse hidden p s d) = Unit {0}
 FewIn (item.Star hidden sy pt p r or_ os ir is_ d) = Unit {0}
 FewIn (item.Path hidden ks d) = Unit {0}
 FewIn (item.Fill hidden c o r) = Unit {0}
-FewIn (item.Stroke hidden c o w lc lj ml d) = Unit {0}
+FewIn (item.Stroke hidden c o w lc lj ml d) = length d ≤ max_list_items
 FewIn (item.GradientFill hidden o s e t g h a r) = Unit {0}
-FewIn (item.GradientStroke hidden o s e t g h a w lc lj ml d) = Unit {0}
+FewIn (item.GradientStroke hidden o s e t g h a w lc lj ml d) = length d ≤ max_list_items
 FewIn (item.Trim hidden s e o m) = Unit {0}
 FewIn (item.Place hidden ks) = Unit {0}
 
--- The list that the item has, if it has one, is within the limit.
+-- The list of items or of dashes that the item has, if it has one, is within the limit.
 unfoldable pub HasFewItems : Item → Type 0
 HasFewItems x = FewIn (out-Item x)
 
@@ -145,6 +142,6 @@ HasOwnValues doc x = ValuesIn doc (out-Item x)
 
 -- Items of a shape layer of a document, as the reader answers them.
 pub record AreItemsOf (doc : Doc) (items : List Item) : Type 0 where
-  pub few : length items ≤ max_items
+  pub few : length items ≤ max_list_items
   pub few_within : All HasFewItems (all_items items)
   pub values : All (HasOwnValues doc) (all_items items)

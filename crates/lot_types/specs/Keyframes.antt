@@ -1,11 +1,14 @@
 -- Keyframes in the order of their times, after the Lottie Specification 1.0, "Keyframes". That two of them may have one
 -- time is this project's own.
-use Rattle.std.specs.Prelude.{◌≡◌, ℕ, ℤ, ◌+◌, ◌-◌, ◌<◌, ◌≤ℤ◌, List, length, Option, Some, slice_get, slice_index_or}
+use Rattle.std.specs.Prelude.{◌≡◌, ℕ, ℤ, ◌+◌, ◌-◌, ◌<◌, ◌≤◌, ◌≤ℤ◌, List, length, Option, Some, slice_get, slice_index_or}
 use Rattle.lot_types.specs.declared.key.Key.{Key}
+use Rattle.lot_types.specs.Limits.{max_list_items}
 
--- There is at least one keyframe, and the time of each is at most the time of the next.
+-- There is at least one keyframe and at most as many as a list may have, and the time of each is at most the time of the
+-- next.
 pub record IsTimeline {A : Type 0} (keys : List (Key A)) : Type 0 where
   pub some : 0 < length keys
+  pub few : length keys ≤ max_list_items
   pub in_order : (k : ℕ) (other : Key A) → k + 1 < length keys
       → (slice_index_or keys k other).t ≤ℤ (slice_index_or keys (k + 1) other).t
 

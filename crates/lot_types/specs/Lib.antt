@@ -4,6 +4,7 @@ pub mod Frame
 pub mod Handles
 pub mod Items
 pub mod Keyframes
+pub mod Limits
 pub mod Options
 pub mod Painting
 pub mod PropertyValues

@@ -1,5 +1,5 @@
 -- Documents as the reader answers them: all that is asked of a document but that its references hold.
-use Rattle.std.specs.Prelude.{◌≡◌, ℕ, pos, ◌<◌, ◌≤◌, ◌<ℤ◌, [], length}
+use Rattle.std.specs.Prelude.{◌≡◌, ℕ, pos, ◌<◌, ◌≤◌, ◌<ℤ◌, List, [], ◌∷◌, length, IsSome}
 use Rattle.std.specs.List.{All}
 use Rattle.lot_types.specs.declared.comp.Comp.{Comp}
 use Rattle.lot_types.specs.declared.doc.Doc.{Doc}
@@ -9,17 +9,17 @@ use Rattle.lot_types.specs.declared.layer.LayerKind.TheVariants as kind
 use Rattle.lot_types.specs.declared.matte.Matte.TheVariants.{No}
 use Rattle.lot_types.specs.declared.read.Read.{Read}
 use Rattle.lot_types.specs.Items.{AreItemsOf}
+use Rattle.lot_types.specs.Limits.{max_list_items, max_layers, max_comps}
 use Rattle.lot_types.specs.Slots.{HasValues}
-
--- The greatest number of layers of a composition, and of compositions: 1,024 assets and the main composition.
-abbrev pub max_layers : ℕ
-max_layers = 4096
-
-abbrev pub max_comps : ℕ
-max_comps = 1025
 
 abbrev pub HasFewLayers : Comp → Type 0
 HasFewLayers comp = length comp.layers ≤ max_layers
+
+-- Each composition but the last, which is the main one, has a name by which layers show it.
+abbrev pub AreNamed : List Comp → Type 0
+AreNamed [] = Unit {0}
+AreNamed (comp ∷ []) = Unit {0}
+AreNamed (comp ∷ (next ∷ comps)) = IsSome comp.id × AreNamed (next ∷ comps)
 
 -- The properties of what a layer shows have values in the document. Compositions are not built yet.
 abbrev pub HasKindValues : Doc → LayerKind → Type 0
@@ -55,6 +55,8 @@ pub record IsWellFormed (r : Read) : Type 0 where
   pub some : 0 < length r.doc.comps
   pub few_comps : length r.doc.comps ≤ max_comps
   pub few_layers : All HasFewLayers r.doc.comps
+  pub few_slots : length r.doc.slots ≤ max_list_items
+  pub named : AreNamed r.doc.comps
   pub rate : pos 0 <ℤ r.doc.fr
   pub slots : All (LayersHaveValues r.doc) r.doc.comps
   pub built : All LayersAreBuilt r.doc.comps

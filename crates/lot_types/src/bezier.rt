@@ -4,7 +4,7 @@ use crate::{Duplicate, Memory, Point, Seq};
 use std::marker::Model;
 
 /// A path of cubic curves through vertices, after the Lottie Specification 1.0, "Bezier Shape". The three lists have
-/// one length. Lengths are in millionths of a pixel.
+/// one length, of at most [`MAX_LIST_ITEMS`]. Lengths are in millionths of a pixel.
 #[derive(Drop)]
 pub struct Bezier {
     /// A last curve leads from the last vertex back to the first.
@@ -18,13 +18,13 @@ pub struct Bezier {
 }
 
 impl Model for Bezier {
-    ghost use Rattle.lot_types.specs.Curve.{Curve, HasOneLength};
+    ghost use Rattle.lot_types.specs.Curve.{Curve, AreVertices};
 
     ghost Value = { Curve };
 
     ghost view = { λ b. record { closed = b.closed; v = b.v; i = b.i; o = b.o } };
 
-    ghost invariant = { λ b. HasOneLength b.v b.i b.o };
+    ghost invariant = { λ b. AreVertices b.v b.i b.o };
 }
 
 impl Duplicate for Bezier {

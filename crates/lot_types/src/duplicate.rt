@@ -14,6 +14,12 @@ pub trait Duplicate: Drop {
         ensures { IfOk result (λ made. made ≡ self.now) };
 }
 
+impl Duplicate for u32 {
+    fn copy(&self) -> Result<u32, Memory> {
+        Ok(*self)
+    }
+}
+
 impl Duplicate for Fx {
     fn copy(&self) -> Result<Fx, Memory> {
         Ok(*self)

@@ -4,7 +4,7 @@ use crate::{Duplicate, Fx, Memory, Seq};
 use std::marker::Model;
 
 /// The colors and opacities along a gradient, after the Lottie Specification 1.0, "Gradient". There is at least one
-/// stop.
+/// stop, and there are at most [`MAX_LIST_ITEMS`] numbers.
 #[derive(Drop)]
 pub struct Gradient {
     /// How many stops of color it has.

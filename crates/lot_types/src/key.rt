@@ -14,9 +14,9 @@ pub struct Key<T> {
     /// The handle that leaves this keyframe and the one that enters the next. Without them the value is interpolated
     /// linearly.
     pub ease: Option<(Ease3, Ease3)>,
-    /// The tangent that leaves this position, in millionths of a pixel. Only vectors have one that is not 0.
+    /// The tangent that leaves this value, in millionths of a pixel. Only vectors have one that is not 0.
     pub to: Point,
-    /// The tangent that enters the next position, in millionths of a pixel. Only vectors have one that is not 0.
+    /// The tangent that enters the next value, in millionths of a pixel. Only vectors have one that is not 0.
     pub ti: Point,
 }
 

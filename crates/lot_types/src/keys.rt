@@ -1,14 +1,15 @@
 //! The keyframes of a property.
 
-ghost use Rattle.std.specs.Prelude.{◌≡◌, ◌↔◌, [], ◌∷◌, ◌++◌, Some, IsSome, IfSome, IfOk, OnOk, OnErr, IsTrue};
+ghost use Rattle.std.specs.Prelude.{◌≡◌, ◌<◌, ◌↔◌, [], length, ◌∷◌, ◌++◌, Some, IsSome, IfSome, IfOk, OnOk, OnErr, IsTrue};
 ghost use Rattle.lot_types.specs.Keyframes.{IsTimeline, EndsBy, last_of};
+ghost use Rattle.lot_types.specs.Limits.{max_list_items};
 
-use crate::{Duplicate, Key, Memory, Seq};
+use crate::{Duplicate, Key, MAX_LIST_ITEMS, Memory, Seq};
 use std::alloc::Global;
 use std::marker::Model;
 
-/// The keyframes of a property: at least one, and the time of each is at most the time of the next. Contracts see them
-/// as a list.
+/// The keyframes of a property: at least one and at most [`MAX_LIST_ITEMS`], and the time of each is at most the time of
+/// the next. Contracts see them as a list.
 ///
 /// Their order is that of the Lottie Specification 1.0, "Keyframes". That two of them may have one time is this
 /// project's own.
@@ -30,8 +31,8 @@ impl<T> Model for Keys<T> {
 }
 
 impl<T: Drop> Keys<T> {
-    /// The keyframes of a list. `None` exactly where it is empty or the time of a keyframe is below that of the one
-    /// before it.
+    /// The keyframes of a list. `None` exactly where it is empty or too long, or the time of a keyframe is below that of
+    /// the one before it.
     pub fn of(keys: Seq<Key<T>>) -> Option<Keys<T>>
         ensures some { IsSome result ↔ IsTimeline keys }
         ensures value { IfSome result (λ made. made ≡ keys) }
@@ -52,9 +53,10 @@ impl<T: Drop> Keys<T> {
         Ok(Keys { keys })
     }
 
-    /// Puts a keyframe at the end, whose time is at least that of the last one. Want of memory is the one refusal; the
-    /// keyframes are then unchanged, and the new one is dropped.
+    /// Puts a keyframe at the end, whose time is at least that of the last one. There must be room for it below
+    /// [`MAX_LIST_ITEMS`]. Want of memory is the one refusal; the keyframes are then unchanged, and the new one is dropped.
     pub fn push(&mut self, key: Key<T>) -> Result<(), Memory>
+        requires room { length self.old < max_list_items }
         requires in_order { EndsBy self.old key.t }
         ensures ok { OnOk result (self.new ≡ self.old ++ key ∷ []) }
         ensures err { OnErr result (self.new ≡ self.old) }
@@ -82,7 +84,7 @@ impl<T> Keys<T> {
     }
 }
 
-// Whether there is a keyframe, and no time is below the one before it.
+// Whether there is a keyframe and there are not too many, and no time is below the one before it.
 fn is_timeline<T>(keys: &[Key<T>]) -> bool
     ensures { IsTrue result ↔ IsTimeline keys.now }
 {
@@ -93,7 +95,7 @@ fn is_timeline<T>(keys: &[Key<T>]) -> bool
         }
         k += 1;
     }
-    !keys.is_empty()
+    !keys.is_empty() && keys.len() <= MAX_LIST_ITEMS
 }
 
 impl<T: Duplicate> Duplicate for Keys<T> {

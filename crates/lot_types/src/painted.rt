@@ -1,6 +1,6 @@
 //! What a style paints.
 
-use crate::{Fx, Matrix, Seq};
+use crate::{Duplicate, Fx, Matrix, Memory, Seq};
 
 /// What a style of a shape layer paints: the leaves from `from` to below `to`, counted over the whole layer in order of
 /// place.
@@ -16,4 +16,17 @@ pub struct Painted {
     pub groups: Seq<Fx>,
     /// For each of its leaves, the map from the space of the leaf to that of the style.
     pub maps: Seq<Matrix>,
+}
+
+impl Duplicate for Painted {
+    fn copy(&self) -> Result<Painted, Memory> {
+        Ok(Painted {
+            place: self.place.copy()?,
+            from: self.from,
+            to: self.to,
+            matrix: self.matrix,
+            groups: self.groups.copy()?,
+            maps: self.maps.copy()?,
+        })
+    }
 }

@@ -1,6 +1,6 @@
 //! The files of this machine, and standard input.
-ghost use Rattle.std.specs.Prelude.{◌≡◌, ◌≢◌, ◌≤◌, ◌↔◌, length, IfOk, IfSome, IsErr, MatchResult, Ok, IsTrue, ⊤};
-ghost use Rattle.lot_play.specs.RealFolder.{IsOpenAt, IsNextAfter, no_content};
+ghost use Rattle.std.specs.Prelude.{◌≡◌, ◌≢◌, ◌≤◌, ◌↔◌, length, codes, None, IfOk, IsErr, OnErr, MatchOption, MatchResult, Ok, IsTrue, ⊤};
+ghost use Rattle.lot_play.specs.RealFolder.{IsOpenAt, IsOpenAfter, IsNextAfter, no_content};
 
 use crate::outside::Folder;
 use lot_types::{Failed, Memory, Text};
@@ -18,7 +18,8 @@ use std::rt::Files;
 #[derive(Drop)]
 pub struct RealFolder<R: Files + Input + AllocGlobal + Drop> {
     rt: R,
-    open: Option<OpenFile<R::File>>,
+    /// The file that is open.
+    current: Option<OpenFile<R::File>>,
     /// How many bytes of standard input were read.
     input: u64,
     faults: u64,
@@ -36,12 +37,14 @@ struct OpenFile<T> {
 impl<R: Files + Input + AllocGlobal + Drop> RealFolder<R> {
     /// Makes the folder of a runtime, of which nothing was read.
     pub fn new(rt: R) -> RealFolder<R>
+        ensures current { result.current ≡ None }
+        ensures input { result.input ≡ 0 }
         ensures faults { result.faults ≡ 0 }
         ensures given { result.given ≡ 0 }
     {
         RealFolder {
             rt,
-            open: None,
+            current: None,
             input: 0,
             faults: 0,
             given: 0,
@@ -52,6 +55,9 @@ impl<R: Files + Input + AllocGlobal + Drop> RealFolder<R> {
     fn read_input(&mut self, from: u64, buf: &mut [u8]) -> Result<usize, Failed>
         ensures within { IfOk result (λ n. n ≤ length buf.old) }
         ensures elsewhere { from ≢ self.old.input → IsErr result }
+        ensures next { IfOk result (λ n. IsNextAfter n self.old.input self.new.input) }
+        ensures refused { OnErr result (self.new.input ≡ self.old.input) }
+        ensures file { self.new.current ≡ self.old.current }
         ensures faults { self.new.faults ≡ self.old.faults }
         ensures given { self.new.given ≡ self.old.given }
     {
@@ -64,19 +70,39 @@ impl<R: Files + Input + AllocGlobal + Drop> RealFolder<R> {
         Ok(n)
     }
 
-    /// Reads from a file, which is opened where it is not open at the place already.
+    /// Reads from a file, which is opened where it is not open at the place already. It stays open after a read, at
+    /// the place after what was read; one whose read failed is closed.
     fn read_file(&mut self, name: &str, from: u64, buf: &mut [u8]) -> Result<usize, Failed>
         ensures within { IfOk result (λ n. n ≤ length buf.old) }
+        ensures stays_open { IfOk result (λ n. MatchOption self.new.current ⊥
+            (λ file. IsOpenAfter n name.now from file.name file.place)) }
+        ensures closed { IsErr result → self.new.current ≡ None }
+        ensures input { self.new.input ≡ self.old.input }
         ensures faults { self.new.faults ≡ self.old.faults }
         ensures given { self.new.given ≡ self.old.given }
     {
-        let opened = match self.open.take() {
+        let opened = match self.current.take() {
             Some(file) if file.is_at(name, from) => Ok(file),
             _ => open_at(&self.rt, name, from),
         };
-        let (open, read) = read_next(opened, buf);
-        self.open = open;
+        let (current, read) = read_next(opened, buf);
+        self.current = current;
         read
+    }
+
+    /// Reads from standard input under the name `-`, and from a file under any other.
+    fn read_named(&mut self, name: &str, from: u64, buf: &mut [u8]) -> Result<usize, Failed>
+        ensures within { IfOk result (λ n. n ≤ length buf.old) }
+        ensures input { name.now ≡ codes "-" → self.new.current ≡ self.old.current }
+        ensures file { name.now ≢ codes "-" → self.new.input ≡ self.old.input }
+        ensures faults { self.new.faults ≡ self.old.faults }
+        ensures given { self.new.given ≡ self.old.given }
+    {
+        if name == "-" {
+            self.read_input(from, buf)
+        } else {
+            self.read_file(name, from, buf)
+        }
     }
 }
 
@@ -116,8 +142,9 @@ fn read_next<T: Read + Drop>(
 ) -> (Option<OpenFile<T>>, Result<usize, Failed>)
     ensures missing { IsErr opened → IsErr result.1 }
     ensures within { IfOk result.1 (λ n. n ≤ length buf.old) }
-    ensures place { IfOk opened (λ file. IfOk result.1 (λ n. IfSome result.0
-        (λ next. IsNextAfter n file.place next.place))) }
+    ensures stays_open { IfOk opened (λ file. IfOk result.1 (λ n. MatchOption result.0 ⊥
+        (λ next. IsOpenAfter n file.name file.place next.name next.place))) }
+    ensures closed { IsErr result.1 → result.0 ≡ None }
 {
     let mut file = match opened {
         Ok(file) => file,
@@ -149,11 +176,7 @@ impl<R: Files + Input + AllocGlobal + Drop> Folder for RealFolder<R> {
     ghost serves = { λ _ _. ⊤ };
 
     fn read(&mut self, name: &str, from: u64, buf: &mut [u8]) -> Result<usize, Failed> {
-        let read = if name == "-" {
-            self.read_input(from, buf)
-        } else {
-            self.read_file(name, from, buf)
-        };
+        let read = self.read_named(name, from, buf);
         match read {
             Ok(n) => self.given = self.given.saturating_add(n as u64),
             Err(_) => self.faults = self.faults.saturating_add(1),

@@ -2,7 +2,8 @@
 use Rattle.std.proofs.Common.{◌≡◌, ◌≤◌, ◌+◌, length, take, reverse}
 use Rattle.lot_comp.specs.Frame.{nodes, frame}
 use Rattle.lot_play.specs.Walk.{after_frame}
-use Rattle.lot_types.specs.WellFormed.{max_layers}
+use Rattle.lot_types.specs.Frame.{visits}
+use Rattle.lot_types.specs.Limits.{max_layers}
 use Rattle.lot_play.proofs.frame.write_drawn.Given as goal
 
 abbrev pub invariant-loop-i : goal.invariant-loop-i
@@ -10,6 +11,7 @@ invariant-loop-i g l =
     record {
       within : l.i ≤ length l.drawn;
       left : after_frame l.d (nodes l.d l.c l.t (reverse (take l.i l.drawn))) l.w ≡ after_frame l.d (frame l.d l.c l.t) l.fn.w;
+      evaluated : l.steps + length (visits (nodes l.d l.c l.t (reverse (take l.i l.drawn)))) ≤ l.fn.steps + length (visits (frame l.d l.c l.t));
       counted : l.steps + l.i ≤ l.fn.steps + max_layers;
     }
 

@@ -5,6 +5,7 @@ use Rattle.lot_types.specs.Refusals.{Fails}
 use Rattle.lot_play.specs.declared.answer.Answer.{Answer}
 use Rattle.lot_play.specs.Judged.{judged}
 use Rattle.lot_play.specs.Output.{fault_answer}
+use Rattle.lot_play.proofs.Evaluating.{tree_of_document}
 use Rattle.lot_play.proofs.Judging.{is_document, is_fault}
 use Rattle.lot_play.proofs.judge.judge_tree.Goals as goal
 
@@ -16,3 +17,7 @@ returns-in-Err-Fault-clause-answer g c =
     let first = subst (λ (e : Refusal). Fails e (judged c.args.j.now).faults) c.in-Err-Fault.field-0-is c.in-Err-Fault.ensures in
     let line = subst (λ (f : Fault). IfOk c.fault.result (λ (a : Answer). a ≡ fault_answer f)) c.in-Err-Fault.fault-is c.fault.ensures in
     is_fault c.fault.result c.args.j.now c.args.task c.in-Err-Fault.fault first line
+
+pub returns-in-Ok-clause-evaluated : goal.returns-in-Ok-clause-evaluated
+returns-in-Ok-clause-evaluated g c =
+    tree_of_document c.args.j.now c.args.task c.in-Ok.d _ _ c.in-Ok.ensures.none c.in-Ok.ensures.value c.perform.ensures.evaluated

@@ -2,6 +2,7 @@ use Rattle.std.proofs.Common.{[], refl, sym, ap, inl, inr, subst, arith}
 use Rattle.lot_play.specs.Count.{RoseBy}
 use Rattle.lot_play.specs.Sink.{Gains}
 use Rattle.lot_play.specs.Output.{Outcome, on_no_command, total_length}
+use Rattle.lot_play.proofs.Evaluating.{of_document_asked, of_nothing_asked}
 use Rattle.lot_play.proofs.Running.{takes_none, narrow, widen, known_one, no_command}
 use Rattle.lot_play.proofs.player.run.Goals as goal
 
@@ -45,3 +46,10 @@ returns-in-None-clause-read_once g c = λ judged o out.
 
 pub returns-in-None-clause-usage : goal.returns-in-None-clause-usage
 returns-in-None-clause-usage g c = λ e. inl c.in-None.ensures
+
+pub returns-in-Some-clause-evaluated : goal.returns-in-Some-clause-evaluated
+returns-in-Some-clause-evaluated g c =
+    of_document_asked (g.F.Folder.state c.args.folder.now).content _ _ _ _ _ c.in-Some.ensures c.run_task.ensures.evaluated
+
+pub returns-in-None-clause-evaluated : goal.returns-in-None-clause-evaluated
+returns-in-None-clause-evaluated g c = λ document content task ask known. of_nothing_asked _ _ c.in-None.ensures document content task ask

@@ -1,5 +1,5 @@
 use Rattle.std.proofs.Common.{◌≡◌, pos, to_z, of_z, w64, get_or, rules}
-use Rattle.lot_types.proofs.Limits.{three_limited, three_in}
+use Rattle.lot_types.proofs.ThreeLimited.{three_limited, three_in}
 use Rattle.lot_types.specs.Handles.{nearest_in, IsIn}
 use Rattle.lot_types.proofs.ease.limit_all.Goals as goal
 

@@ -1,6 +1,6 @@
 use Rattle.std.proofs.Common.{◌<◌, ◌≤◌, List, ℕ, length, subst, sym}
 use Rattle.std.specs.List.{All}
-use Rattle.lot_types.specs.WellFormed.{max_layers}
+use Rattle.lot_types.specs.Limits.{max_layers}
 use Rattle.lot_refs.specs.Linked.{layers_of}
 use Rattle.lot_refs.proofs.DrawnWithin.{drawn_within, drawn_few}
 use Rattle.lot_refs.proofs.linked.Linked.drawn_layers.Goals as goal
