@@ -61,14 +61,14 @@ node_with kind clip (Some x) None inner rest = None
 node_with kind clip None matte inner rest = None
 
 -- The frame with what each layer is evaluated to, where all can be.
-abbrev pub evaluated : {A B : Type 0} → (A → Option B) → Frame A → Option (Frame B)
-evaluated f nothing = Some nothing
-evaluated f (node at kind matte clip inner rest) =
-    node_with kind clip (f at) (evaluated f matte) (evaluated f inner) (evaluated f rest)
+abbrev pub evaluated_frame : {A B : Type 0} → (A → Option B) → Frame A → Option (Frame B)
+evaluated_frame f nothing = Some nothing
+evaluated_frame f (node at kind matte clip inner rest) =
+    node_with kind clip (f at) (evaluated_frame f matte) (evaluated_frame f inner) (evaluated_frame f rest)
 
 abbrev pub piece_at : Doc → Visit → Option Piece
 piece_at d v = piece_of d v.comp v.layer v.time
 
 -- The finished frame of the main composition.
 abbrev pub finished_frame : Doc → ℤ → Option (Frame Piece)
-finished_frame d t = evaluated (piece_at d) (frame d (main_comp d) t)
+finished_frame d t = evaluated_frame (piece_at d) (frame d (main_comp d) t)

@@ -24,14 +24,14 @@ use Rattle.lot_types.specs.declared.seg.Seg.{Seg}
 abbrev pub corner : ℤ → ℤ → Point
 corner x y = record { x = x; y = y }
 
-abbrev pub line : Point → Point → Seg
-line from to = record { c1 = from; c2 = to; end = to }
+abbrev pub side : Point → Point → Seg
+side from to = record { c1 = from; c2 = to; end = to }
 
 -- The closed contour (0, 0), (w, 0), (w, h), (0, h).
-abbrev pub rectangle : ℤ → ℤ → Contour
-rectangle w h =
+abbrev pub solid_contour : ℤ → ℤ → Contour
+solid_contour w h =
     let a = corner (pos 0) (pos 0) in let b = corner w (pos 0) in let c = corner w h in let d = corner (pos 0) h in
-    record { closed = true; start = a; segs = line a b ∷ line b c ∷ line c d ∷ line d a ∷ [] }
+    record { closed = true; start = a; segs = side a b ∷ side b c ∷ side c d ∷ side d a ∷ [] }
 
 -- A rectangle that is filled with a color.
 abbrev pub solid_paint : ℤ → ℤ → Rgb → Paint
@@ -40,7 +40,7 @@ solid_paint w h rgb = record {
   brush = Fill false;
   opacity = pos (10 ^ 6);
   matrix = identity;
-  contours = rectangle w h ∷ [];
+  contours = solid_contour w h ∷ [];
 }
 
 -- What a layer shows at a time. Compositions are not evaluated yet.

@@ -8,8 +8,8 @@ use lot_refs::Linked;
 use lot_types::{Memory, Seq};
 use std::alloc::Global;
 
-/// The numbers of layer `l` of composition `c` and of its ancestors: the layer first, then its parent. Want of memory is the
-/// one refusal.
+/// The numbers of layer `l` of composition `c` and of its ancestors: the layer first, then its parent. Want of memory
+/// is the one refusal.
 pub(crate) fn chain_of(alloc: Global, d: &Linked, c: u32, l: u32) -> Result<Seq<u32>, Memory>
     requires comp { c < length d.now.comps }
     requires layer { l < length (layers_of d.now c) }

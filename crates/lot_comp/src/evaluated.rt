@@ -14,11 +14,11 @@ use lot_types::{Doc, LayerKind, Matrix, Memory, Paint, Piece, Seq, Steps, Time};
 use std::alloc::Global;
 use std::sync::ledger::Ledger;
 
-/// Layer `l` of composition `c` at a time: its matrix along its parents, its opacity and what it shows, whether it is visible
-/// or not. The counter rises by one, whatever the answer is. Want of memory is the one refusal.
+/// Layer `l` of composition `c` at a time: its matrix along its parents, its opacity and what it shows, whether it is
+/// visible or not. The counter rises by one, whatever the answer is. Want of memory is the one refusal.
 ///
-/// The layer has to be there. Where several layers of a composition are evaluated, [`piece_with`] takes the matrices that
-/// [`full_matrices`](crate::full_matrices) makes of all of them.
+/// The layer has to be there. Where several layers of a composition are evaluated, [`piece_with`] takes the matrices
+/// that [`full_matrices`](crate::full_matrices) makes of all of them.
 pub fn piece<L: Ledger>(
     alloc: Global,
     d: &Linked,

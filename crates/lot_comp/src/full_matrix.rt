@@ -12,8 +12,8 @@ use lot_refs::Linked;
 use lot_types::{Matrix, Memory, Time};
 use std::alloc::Global;
 
-/// The map from the space of layer `l` of composition `c` to that of the composition, at a time: its own matrix, and then that
-/// of its parent. Want of memory is the one refusal.
+/// The map from the space of layer `l` of composition `c` to that of the composition, at a time: its own matrix, and
+/// then that of its parent. Want of memory is the one refusal.
 pub(crate) fn full_of(alloc: Global, d: &Linked, c: u32, l: u32, t: Time) -> Result<Matrix, Memory>
     requires comp { c < length d.now.comps }
     requires layer { l < length (layers_of d.now c) }

@@ -12,8 +12,8 @@ use lot_refs::Linked;
 use lot_types::{Matrix, Memory, Seq, Time};
 use std::alloc::Global;
 
-/// The full matrix of each layer of composition `c` at a time: its own matrix, and then that of its parent. Each is made
-/// once, in time that grows with the layers. Want of memory is the one refusal.
+/// The full matrix of each layer of composition `c` at a time: its own matrix, and then that of its parent. Each is
+/// made once, in time that grows with the layers. Want of memory is the one refusal.
 pub fn full_matrices(alloc: Global, d: &Linked, c: u32, t: Time) -> Result<Seq<Matrix>, Memory>
     requires { c < length d.now.comps }
     ensures { IfOk result (λ ms. AreFull d.now c t ms) }

@@ -11,8 +11,8 @@ use lot_paint::paint_of;
 use lot_types::{Collected, Doc, Item, Memory, Outline, Paint, Painted, Seq, Time};
 use std::alloc::Global;
 
-/// What the items of a shape layer show at a time: a paint for each style that is not hidden, from the last to the first.
-/// Want of memory is the one refusal.
+/// What the items of a shape layer show at a time: a paint for each style that is not hidden, from the last to the
+/// first. Want of memory is the one refusal.
 #[tactic(auto, unfolding(crate::specs::Shape::shape_paints))]
 pub(crate) fn shape_paints(
     alloc: Global,

@@ -1,12 +1,12 @@
 //! The paint of solid layers.
 ghost use Rattle.std.specs.Prelude.{◌≡◌, IfOk};
-ghost use Rattle.lot_comp.specs.Piece.{corner as corner_in, line as line_in, rectangle as rectangle_in, solid_paint as paint_in};
+ghost use Rattle.lot_comp.specs.Piece.{corner as corner_in, side as side_in, solid_contour as contour_in, solid_paint as paint_in};
 
 use lot_types::{Brush, Contour, Fx, Ink, Matrix, Memory, Paint, Point, Rgb, Seg, Seq};
 use std::alloc::Global;
 
-/// A rectangle of `w` by `h` millionths of a pixel, whose left upper corner is the origin, filled with a color. Want of memory
-/// is the one refusal.
+/// A rectangle of `w` by `h` millionths of a pixel, whose left upper corner is the origin, filled with a color. Want
+/// of memory is the one refusal.
 pub(crate) fn solid_paint(alloc: Global, w: Fx, h: Fx, rgb: Rgb) -> Result<Paint, Memory>
     ensures { IfOk result (λ p. p ≡ paint_in w h rgb) }
 {
@@ -23,7 +23,7 @@ pub(crate) fn solid_paint(alloc: Global, w: Fx, h: Fx, rgb: Rgb) -> Result<Paint
 
 /// The closed contour (0, 0), (w, 0), (w, h), (0, h).
 fn rectangle(alloc: Global, w: Fx, h: Fx) -> Result<Contour, Memory>
-    ensures { IfOk result (λ made. made ≡ rectangle_in w h) }
+    ensures { IfOk result (λ made. made ≡ contour_in w h) }
 {
     let zero = Fx::ZERO;
     let mut segs = Seq::with_capacity(alloc, 4)?;
@@ -40,7 +40,7 @@ fn rectangle(alloc: Global, w: Fx, h: Fx) -> Result<Contour, Memory>
 
 /// A straight curve from (`x0`, `y0`) to (`x1`, `y1`).
 fn line(x0: Fx, y0: Fx, x1: Fx, y1: Fx) -> Seg
-    ensures { result ≡ line_in (corner_in x0 y0) (corner_in x1 y1) }
+    ensures { result ≡ side_in (corner_in x0 y0) (corner_in x1 y1) }
 {
     Seg {
         c1: corner(x0, y0),

@@ -20,21 +20,21 @@ use Rattle.lot_read.proofs.SoundValues.{number_sound, flag_sound, whole_sound, s
 use Rattle.lot_doc.specs.declared.item_type.ItemType.{ItemType}
 use Rattle.lot_doc.specs.declared.item_type.ItemType.TheVariants as type
 use Rattle.lot_doc.specs.Gradient.{max_stops, colors_rows, stops_rows, needed_stops, base_gradient_rows, gradient_fill_rows, gradient_stroke_rows}
-use Rattle.lot_doc.specs.Item.{transform_item_rows, group_rows, typed_rows, item_rows, item_within, item}
-use Rattle.lot_doc.specs.ItemHead.{type_named, type_or_fault, item_type, head_rows}
+use Rattle.lot_doc.specs.Item.{transform_item_rows, group_rows, typed_rows, item_rows, item_within, shape_item}
+use Rattle.lot_doc.specs.ItemHead.{type_named, item_type_or_fault, item_type, head_rows}
 use Rattle.lot_doc.specs.Shape.{rectangle_rows, ellipse_rows, spokes_rows, inner_radius, radii_rows, star_kind, polystar_rows, path_rows}
 use Rattle.lot_doc.specs.Style.{fill_rule, fill_rows, dash_kind_named, dash_kind_or_fault, dash_kind, dash_rows, default_miter, line_rows, stroke_rows}
 use Rattle.lot_doc.specs.Trim.{trim_rows}
 use Rattle.lot_doc.proofs.FaultlessFeatures.{normal_blend_sound}
 
-type_or_fault_sound : (at : List Step) (ty : Option ItemType) → IsSound (type_or_fault at ty)
+type_or_fault_sound : (at : List Step) (ty : Option ItemType) → IsSound (item_type_or_fault at ty)
 type_or_fault_sound at (Some ty) = good_sound ty
 type_or_fault_sound at None = bad_sound code.Unsupported at
 
 item_type_sound : ReadsSoundly item_type
 unfolding item_type
 item_type_sound at j =
-    elim (out-Json j) as (λ v. let found : Findings ItemType = elim v [ tree.Text t ↦ type_or_fault at (type_named t) | _ ↦ bad code.Kind at ] in IsSound found) [
+    elim (out-Json j) as (λ v. let found : Findings ItemType = elim v [ tree.Text t ↦ item_type_or_fault at (type_named t) | _ ↦ bad code.Kind at ] in IsSound found) [
       | tree.Text t ↦ type_or_fault_sound at (type_named t)
       | _ ↦ bad_sound code.Kind at
     ]
@@ -246,6 +246,6 @@ unfolding item_within
 item_within_sound names zero at j = bad_sound code.Kind at
 item_within_sound names (suc n) at j = object_sound (item_rows_sound names (item_within_sound names n)) at j
 
-pub item_sound : (names : Names) → ReadsSoundly (item names)
-unfolding item
+pub item_sound : (names : Names) → ReadsSoundly (shape_item names)
+unfolding shape_item
 item_sound names at j = item_within_sound names (suc (size-Json j)) at j

@@ -22,7 +22,7 @@ use Rattle.lot_doc.specs.declared.layer_type.LayerType.{LayerType}
 use Rattle.lot_doc.specs.declared.layer_type.LayerType.TheVariants.{Solid, Null, Shape}
 use Rattle.lot_doc.specs.declared.running_time.RunningTime.{RunningTime}
 use Rattle.lot_doc.specs.Color.{good_or_value, color_of, hex_color}
-use Rattle.lot_doc.specs.Layer.{type_or_fault, layer_type, header_rows, solid_rows, shape_rows, type_rows, kind_rows, content_rows, layer_rows, typed_layer_rows}
+use Rattle.lot_doc.specs.Layer.{layer_type_or_fault, layer_type, header_rows, solid_rows, shape_rows, type_rows, kind_rows, content_rows, layer_rows, typed_layer_rows}
 use Rattle.lot_doc.specs.Root.{max_assets, in_order, running_time_rows, root_rows, document}
 use Rattle.lot_doc.proofs.FaultlessFeatures.{left_out_sound, asset_sound}
 use Rattle.lot_doc.proofs.FaultlessItems.{item_sound}
@@ -40,7 +40,7 @@ color_sound at j =
     ]
 
 -- Layers.
-type_or_fault_sound : (at : List Step) (z : ℤ) → IsSound (type_or_fault at z)
+type_or_fault_sound : (at : List Step) (z : ℤ) → IsSound (layer_type_or_fault at z)
 type_or_fault_sound at z =
     if_sound (int_eq z (pos (10 ^ 6))) (good_sound Solid)
     (if_sound (int_eq z (pos (3 * 10 ^ 6))) (good_sound Null)

@@ -21,7 +21,7 @@ use Rattle.lot_read.specs.Whole.{whole}
 use Rattle.lot_doc.specs.declared.item_type.ItemType.{ItemType}
 use Rattle.lot_doc.specs.declared.item_type.ItemType.TheVariants as type
 use Rattle.lot_doc.specs.Item.{transform_item_rows, group_rows, typed_rows, item_rows, item_within}
-use Rattle.lot_doc.specs.Item.{item as item_of_tree}
+use Rattle.lot_doc.specs.Item.{shape_item}
 use Rattle.lot_doc.specs.ItemHead.{item_type, head_rows}
 use Rattle.lot_doc.specs.Trim.{trim_rows}
 use Rattle.lot_doc.proofs.GoodItems.{IsGood, IsGoodIn, good_in, single}
@@ -100,8 +100,8 @@ unfolding item_within
 item_within_only zero at j = bad_only code.Kind at
 item_within_only (suc n) at j = object_only (item_rows_only (item_within_only n)) at j
 
-pub item_only : ReadsOnly IsGood (item_of_tree [])
-unfolding item_of_tree
+pub item_only : ReadsOnly IsGood (shape_item [])
+unfolding shape_item
 item_only at j = item_within_only (suc (size-Json j)) at j
 
 -- The items of a shape layer.

@@ -27,7 +27,7 @@ use Rattle.lot_doc.specs.declared.layer.Content.{Content}
 use Rattle.lot_doc.specs.declared.running_time.RunningTime.{RunningTime}
 use Rattle.lot_doc.specs.Feature.{asset_rows}
 use Rattle.lot_doc.specs.Layer.{layer_type, header_rows, solid_rows, shape_rows, type_rows, kind_rows, content_rows, layer_of, layer_rows, typed_layer_rows}
-use Rattle.lot_doc.specs.Root.{max_assets, running_time_rows, main_comp, doc_of, root_rows, document}
+use Rattle.lot_doc.specs.Root.{max_assets, running_time_rows, comp_of_layers, doc_of, root_rows, document}
 use Rattle.lot_doc.proofs.Only.{GivesOnly, RowsGiveOnly, AreFew, good_only, row_only, any_row_only, also_only, then_only, needed_only, object_only, number_only, list_only}
 use Rattle.lot_doc.proofs.OnlyItems.{item_only, are_items}
 use Rattle.lot_doc.proofs.OnlyTransform.{EverValues, transform_only}
@@ -101,7 +101,7 @@ well_formed_doc : (w h fr : ℤ) → above_zero fr ≡ true → (time : RunningT
     → AreFew max_layers LayerIsGood layers → IsWellFormedDoc (doc_of w h fr time layers)
 well_formed_doc w h fr above time layers few uses =
     let d = doc_of w h fr time layers in
-    let main = main_comp layers in
+    let main = comp_of_layers layers in
     record {
       some = omega arith;
       few_comps = omega arith;

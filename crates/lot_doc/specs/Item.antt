@@ -55,5 +55,5 @@ item_within names zero at j = bad Kind at
 item_within names (suc n) at j = object (item_rows names (item_within names n)) at j
 
 -- An item: no tree has more levels than its own number.
-unfoldable pub item : Names → Reader Item
-item names at j = item_within names (suc (size-Json j)) at j
+unfoldable pub shape_item : Names → Reader Item
+shape_item names at j = item_within names (suc (size-Json j)) at j

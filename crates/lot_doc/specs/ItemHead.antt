@@ -28,12 +28,12 @@ type_named name =
     else if bytes_eq name (codes "tr") then Some Transform
     else None
 
-abbrev pub type_or_fault : List Step → Option ItemType → Findings ItemType
-type_or_fault at (Some ty) = good ty
-type_or_fault at None = bad code.Unsupported at
+abbrev pub item_type_or_fault : List Step → Option ItemType → Findings ItemType
+item_type_or_fault at (Some ty) = good ty
+item_type_or_fault at None = bad code.Unsupported at
 
 unfoldable pub item_type : Reader ItemType
-item_type at j = elim (out-Json j) [ tree.Text t ↦ type_or_fault at (type_named t) | _ ↦ bad code.Kind at ]
+item_type at j = elim (out-Json j) [ tree.Text t ↦ item_type_or_fault at (type_named t) | _ ↦ bad code.Kind at ]
 
 -- Whether the item is hidden. Its blend mode is the normal one.
 unfoldable pub head_rows : Row Bool

@@ -22,11 +22,11 @@ use Rattle.lot_doc.specs.declared.layer.Header.{Header}
 use Rattle.lot_doc.specs.declared.layer.Content.{Content}
 use Rattle.lot_doc.specs.Color.{hex_color}
 use Rattle.lot_doc.specs.Feature.{left_out}
-use Rattle.lot_doc.specs.Item.{item}
+use Rattle.lot_doc.specs.Item.{shape_item}
 
 -- The type of a number of millionths: 1 is a solid layer, 3 a null layer, and 4 a shape layer.
-abbrev pub type_or_fault : List Step → ℤ → Findings LayerType
-type_or_fault at z =
+abbrev pub layer_type_or_fault : List Step → ℤ → Findings LayerType
+layer_type_or_fault at z =
     if int_eq z (pos (10 ^ 6)) then good Solid
     else if int_eq z (pos (3 * 10 ^ 6)) then good Null
     else if int_eq z (pos (4 * 10 ^ 6)) then good Shape
@@ -35,7 +35,7 @@ type_or_fault at z =
 
 -- The type of a layer: a whole number.
 unfoldable pub layer_type : Reader LayerType
-layer_type at j = number any at j then type_or_fault at
+layer_type at j = number any at j then layer_type_or_fault at
 
 -- The rows of a layer before its transform.
 unfoldable pub header_rows : Row Header
@@ -62,7 +62,7 @@ solid_rows at m =
 -- The items of a shape layer.
 unfoldable pub shape_rows : Names → Row LayerKind
 shape_rows names at m =
-    good (λ items. kind.Shape items) ⊛ needed (codes "shapes") (list max_list_items (item names)) at m
+    good (λ items. kind.Shape items) ⊛ needed (codes "shapes") (list max_list_items (shape_item names)) at m
 
 -- The rows of each type. A null layer has none.
 unfoldable pub type_rows : Names → LayerType → Row LayerKind

@@ -33,13 +33,13 @@ running_time_rows at m =
     then in_order at
 
 -- The main composition, which has no name.
-abbrev pub main_comp : List Layer → Comp
-main_comp layers = record { id = None; layers = layers }
+abbrev pub comp_of_layers : List Layer → Comp
+comp_of_layers layers = record { id = None; layers = layers }
 
 -- The document of this size, frame rate and time whose one composition has these layers. It has no slots.
 abbrev pub doc_of : ℤ → ℤ → ℤ → RunningTime → List Layer → Doc
 doc_of w h fr time layers =
-    record { w = w; h = h; fr = fr; ip = time.ip; op = time.op; slots = []; comps = main_comp layers ∷ [] }
+    record { w = w; h = h; fr = fr; ip = time.ip; op = time.op; slots = []; comps = comp_of_layers layers ∷ [] }
 
 -- The whole animation.
 unfoldable pub root_rows : Names → Row Doc

@@ -49,6 +49,7 @@ impl Reader for DashKindValue {
     }
 }
 
+/// The kind of a dash by its member `n`. `None` where no kind has this name.
 fn dash_kind_named(name: &str) -> Option<DashKind>
     ensures { result ≡ dash_kind_named_in name.now }
 {

@@ -14,7 +14,7 @@ ghost use Rattle.lot_read.specs.Rows.{needed, object};
 ghost use Rattle.lot_read.specs.SlotNames.{names_in};
 ghost use Rattle.lot_doc.specs.declared.item_type.ItemType.TheVariants as type;
 ghost use Rattle.lot_doc.specs.ItemHead.{item_type, head_rows};
-ghost use Rattle.lot_doc.specs.Item.{transform_item_rows, group_rows, typed_rows, item_rows, item_within, item as item_of_tree};
+ghost use Rattle.lot_doc.specs.Item.{transform_item_rows, group_rows, typed_rows, item_rows, item_within, shape_item};
 
 use crate::ellipse::read_ellipse;
 use crate::fill::read_fill;
@@ -41,9 +41,9 @@ pub(crate) struct ItemOf<'a> {
 impl<'a> Reader for ItemOf<'a> {
     type Value = Item;
 
-    ghost gives = { λ i. item_of_tree (names_in i.names.now) };
+    ghost gives = { λ i. shape_item (names_in i.names.now) };
 
-    #[tactic(auto, unfolding(crate::specs::Item::item))]
+    #[tactic(auto, unfolding(crate::specs::Item::shape_item))]
     fn read(&self, at: &mut Pointer, v: &Json, uses: &mut Seq<Use>) -> Result<Item, Refusal> {
         read_item(v, self.names, at, uses)
     }

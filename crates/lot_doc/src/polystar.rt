@@ -59,6 +59,7 @@ pub(crate) fn read_polystar(names: &SlotNames, members: &mut Members) -> Result<
     })
 }
 
+/// Reads the number of points of a polystar, its center and its rotation.
 #[tactic(auto, using(lot_read::proofs::Faults::first_of_prefix), unfolding(crate::specs::Shape::spokes_rows))]
 fn read_spokes(names: &SlotNames, members: &mut Members) -> Result<Spokes, Refusal>
     ensures gives { RowGives result members.old members.new (spokes_rows (names_in names.now)) }

@@ -1,7 +1,7 @@
 //! The reader of the members of a whole animation.
 ghost use Rattle.std.specs.Prelude.{◌≡◌, [], ◌∷◌, IfOk};
 ghost use Rattle.lot_read.specs.SlotNames.{names_in};
-ghost use Rattle.lot_doc.specs.Root.{main_comp, root_rows};
+ghost use Rattle.lot_doc.specs.Root.{comp_of_layers, root_rows};
 
 use crate::asset::AssetRows;
 use crate::layer::LayerRows;
@@ -66,7 +66,7 @@ impl<'a> Rows for RootRows<'a> {
 
 /// The main composition, with these layers, as the only one. Want of memory is the one refusal.
 fn main_comp_of(layers: Seq<Layer>, alloc: Global) -> Result<Seq<Comp>, Memory>
-    ensures { IfOk result (λ comps. comps ≡ main_comp layers ∷ []) }
+    ensures { IfOk result (λ comps. comps ≡ comp_of_layers layers ∷ []) }
 {
     let mut comps = Seq::new(alloc);
     comps.push(Comp { id: None, layers })?;

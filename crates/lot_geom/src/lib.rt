@@ -1,7 +1,8 @@
 //! Affine maps, cubic curves, and the contours of paths.
 //!
 //! Numbers are millionths, of a pixel or of one, and are limited to the range from -10^13 to 10^13. The x axis points
-//! to the right and the y axis down, so that a positive angle turns clockwise. Only [`path_contours`] and [`lengths`] take memory.
+//! to the right and the y axis down, so that a positive angle turns clockwise. Only [`path_contours`] and [`lengths`]
+//! take memory.
 #![tactic(auto)]
 
 mod arc_length;
@@ -18,7 +19,7 @@ pub use arc_length::along;
 pub use cubic::{Cubic, point_at, split};
 pub use curve_length::{curve_of, lengths};
 pub use matrix::{apply, identity, of_transform_values, rotation, then};
-pub use number::{limited, negated};
+pub use number::{exact_product, limited, negated};
 pub use offset::moved;
 pub use part::part_between;
 pub use path::path_contours;

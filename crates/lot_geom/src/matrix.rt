@@ -4,11 +4,11 @@
 //! the left: `then(m, next)` maps by `m` first. Each coefficient and each coordinate is rounded, and limited to the
 //! range once.
 
-ghost use Rattle.std.specs.Prelude.{◌≡◌, ◌*◌, ◌^◌, ◌≤◌, ◌+ℤ◌, ◌*ℤ◌, pos, unsigned_abs};
+ghost use Rattle.std.specs.Prelude.{◌≡◌, ◌*◌, ◌^◌, ◌≤◌, ◌+ℤ◌, pos, unsigned_abs};
 ghost use Rattle.lot_geom.specs.Matrix.{matrix_product, mapped, identity as identity_in, translation as translation_in, scaling as scaling_in, rotation as rotation_in, shear as shear_in, skewed as skewed_in, is_translation as is_translation_in, transform_matrix, sum_of_products as sum_of_products_in};
 ghost use Rattle.lot_num.specs.Round.{limit, rnd};
 
-use crate::number::{limited, negated};
+use crate::number::{exact_product, limited, negated};
 use crate::offset::{moved, opposite};
 use lot_num::{cos_fx, rnd_div, sin_fx, tan_fx};
 use lot_types::{Fx, Matrix, Point};
@@ -91,15 +91,7 @@ fn sum_of_products(x: Fx, y: Fx, u: Fx, v: Fx) -> i128
     ensures value { result ≡ sum_of_products_in x y u v }
     ensures small { unsigned_abs result ≤ 2 * 10 ^ 26 }
 {
-    rnd_div(times(x, y) + times(u, v), 1_000_000)
-}
-
-/// The product of two numbers, in millionths of millionths.
-fn times(x: Fx, y: Fx) -> i128
-    ensures value { result ≡ x *ℤ y }
-    ensures small { unsigned_abs result ≤ 10 ^ 26 }
-{
-    x.get() as i128 * y.get() as i128
+    rnd_div(exact_product(x, y) + exact_product(u, v), 1_000_000)
 }
 
 /// The map that moves each point by an offset.

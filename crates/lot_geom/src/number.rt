@@ -1,6 +1,6 @@
-//! Numbers that are limited to the range.
+//! Numbers that are limited to the range, and products of two.
 
-ghost use Rattle.std.specs.Prelude.{◌≡◌, ◌+ℤ◌, neg_ℤ};
+ghost use Rattle.std.specs.Prelude.{◌≡◌, ◌≤◌, ◌^◌, ◌+ℤ◌, ◌*ℤ◌, neg_ℤ, unsigned_abs};
 ghost use Rattle.lot_num.specs.Round.{limit};
 
 use lot_num::clamp_fx;
@@ -31,4 +31,12 @@ pub(crate) fn sum(x: Fx, y: Fx) -> Fx
     ensures { result ≡ limit (x +ℤ y) }
 {
     limited(x.get() as i128 + y.get() as i128)
+}
+
+/// The product of two numbers of millionths, in millionths of millionths: neither rounded nor limited.
+pub fn exact_product(x: Fx, y: Fx) -> i128
+    ensures value { result ≡ x *ℤ y }
+    ensures small { unsigned_abs result ≤ 10 ^ 26 }
+{
+    x.get() as i128 * y.get() as i128
 }

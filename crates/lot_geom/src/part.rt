@@ -14,11 +14,11 @@ use lot_num::rnd_div;
 /// The number of steps of the grid of parameters that each chord has.
 const STEPS_OF_CHORD: u32 = 1024;
 
-/// The part of a curve from the length `from` to the length `to`, both from the start of the curve and in millionths of a
-/// pixel. `length` is that of the curve, as [`crate::lengths`] measures it.
+/// The part of a curve from the length `from` to the length `to`, both from the start of the curve and in millionths
+/// of a pixel. `length` is that of the curve, as [`crate::lengths`] measures it.
 ///
-/// Between the ends of its 64 chords a parameter is in proportion to the length, rounded to steps of 65,536. `from` is at
-/// most `to`, and `to` at most `length`. It takes no memory.
+/// Between the ends of its 64 chords a parameter is in proportion to the length, rounded to steps of 65,536. `from`
+/// is at most `to`, and `to` at most `length`. It takes no memory.
 #[tactic(auto, unfolding(crate::specs::Lengths::part_between))]
 pub fn part_between(c: &Cubic, length: u64, from: u64, to: u64) -> Cubic
     requires whole { length ≡ curve_length c.now }

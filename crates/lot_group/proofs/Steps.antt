@@ -2,7 +2,7 @@
 use Rattle.std.proofs.Common.{◌≡◌, ℕ, ℤ, ◌+◌, ◌<◌, ◌≤◌, List, [], ◌∷◌, ◌++◌, map, length, take, drop, get_or, set, reverse, Option, Some, refl, ap, sym, ◌∙◌, subst, false, arith, append_assoc}
 use Rattle.std.proofs.lemmas.List.{append-nil, map-append, map_push, length-map, length-append, take_at, drop_at, take-map, drop-map, take_more, drop_more, get_or_at, set_at, map_more, length-take-le, reverse-append}
 use Rattle.lot_geom.specs.Matrix.{identity, matrix_product}
-use Rattle.lot_outline.specs.Leaf.{contours_of}
+use Rattle.lot_outline.specs.Leaf.{leaf_contours}
 use Rattle.lot_prop.specs.Slots.{evaluated}
 use Rattle.std.specs.Prelude.{option_map}
 use Rattle.lot_types.specs.declared.doc.Doc.{Doc}
@@ -105,7 +105,7 @@ pub group_opacity-is : (d : Doc) (u : ℤ) (x : Item) (it : List Item) (o : ℤ)
 unfolding group_opacity
 group_opacity-is d u x it o e f = ap (λ (z : List Item). opacity_of_found d u (first_transform z)) e ∙ f
 
-pub own_outline-is : (d : Doc) (u : ℤ) (x : Item) (o : Outline) → contours_of evaluated d x u ≡ Some o.contours →
+pub own_outline-is : (d : Doc) (u : ℤ) (x : Item) (o : Outline) → leaf_contours evaluated d x u ≡ Some o.contours →
     own_outline d u x ≡ Some o
 unfolding own_outline
 own_outline-is d u x o e = ap (option_map outline_of) e

@@ -1,6 +1,6 @@
 -- The outlines of the leaves of a list at a time, after their trims.
 use Rattle.std.specs.Prelude.{ℤ, List, [], ◌∷◌, map, drop, Bool, Option, Some, None, option_map, option_and_then, if◌then◌else◌}
-use Rattle.lot_outline.specs.Leaf.{contours_of}
+use Rattle.lot_outline.specs.Leaf.{leaf_contours}
 use Rattle.lot_prop.specs.Slots.{evaluated}
 use Rattle.lot_types.specs.declared.contour.Contour.{Contour}
 use Rattle.lot_types.specs.declared.doc.Doc.{Doc}
@@ -15,7 +15,7 @@ outline_of contours = record { contours = contours }
 
 -- The outline of a leaf before its trims.
 unfoldable pub own_outline : Doc → ℤ → Item → Option Outline
-own_outline d t x = option_map outline_of (contours_of evaluated d x t)
+own_outline d t x = option_map outline_of (leaf_contours evaluated d x t)
 
 -- A list of outlines as they replace others. Where there is no list, each of the others has no value.
 abbrev pub in_place_of : List (Option Outline) → Option (List Outline) → List (Option Outline)

@@ -17,8 +17,8 @@ use std::alloc::Global;
 /// [`lot_types::Painted`].
 ///
 /// Each outline is as all trims leave it that act on it, also those after a style: of the groups that hold it from the
-/// innermost outwards, and of one list in order of place. A hidden item counts as absent, with all that it holds. Want of
-/// memory is the one refusal.
+/// innermost outwards, and of one list in order of place. A hidden item counts as absent, with all that it holds.
+/// Want of memory is the one refusal.
 pub fn collect(alloc: Global, d: &Doc, items: &Seq<Item>, t: Time) -> Result<Collected, Memory>
     requires { AreItemsOf d.now items.now }
     ensures value { IfOk result (λ c. collected d.now t items.now ≡ Some c) }

@@ -34,8 +34,8 @@ impl Decoder {
         })
     }
 
-    /// Reads the next bytes. Refuses them as soon as no JSON text begins with all bytes up to here, with the offset of the
-    /// first byte that none continues with. After a refusal each call gives that same refusal.
+    /// Reads the next bytes. Refuses them as soon as no JSON text begins with all bytes up to here, with the offset
+    /// of the first byte that none continues with. After a refusal each call gives that same refusal.
     pub fn feed(&mut self, piece: &[u8]) -> Result<(), JsonRefusal>
         ensures fed { (b : List ℕ) → WasFed self.old b → WasFed self.new (b ++ piece.now) }
         ensures viable { OnOk result ((b : List ℕ) → WasFed self.old b
@@ -57,8 +57,8 @@ impl Decoder {
         }
     }
 
-    /// The tree of the JSON text that was read. Refuses bytes that are not a whole JSON text, with the offset up to which
-    /// they can become one.
+    /// The tree of the JSON text that was read. Refuses bytes that are not a whole JSON text, with the offset up to
+    /// which they can become one.
     pub fn finish(self) -> Result<Json, JsonRefusal>
         ensures only { IfOk result (λ x. (b : List ℕ) → WasFed self b → IsOnlyTree b x) }
         ensures refused { IfErr result (λ e. (b : List ℕ) → WasFed self b → IsNoText e b) }

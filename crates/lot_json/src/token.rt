@@ -7,8 +7,8 @@ ghost use Rattle.lot_json.specs.NumberToken.{IsNumberToken};
 use crate::Number;
 use crate::tokens::NumberToken;
 
-/// The number of a JSON number token by RFC 8259, section 6, in millionths by its exact value. `None` where the bytes are
-/// no number token. Takes no memory, for a token of any length.
+/// The number of a JSON number token by RFC 8259, section 6, in millionths by its exact value. `None` where the bytes
+/// are no number token. Takes no memory, for a token of any length.
 pub fn number(bytes: &[u8]) -> Option<Number>
     ensures token { IfSome result (λ n. IsNumberToken bytes.now n) }
     ensures only { IfSome result (λ n. (m : Number) → IsNumberToken bytes.now m → m ≡ n) }

@@ -11,8 +11,8 @@ use crate::round::rounded_to;
 /// [`rnd_div`](crate::rnd_div) rounds, and returns the length of the text. The bytes after the text are not specified.
 ///
 /// `v` is in range, and `digits` is at most 6. The text is a `-` where the rounded number is below 0, the whole part,
-/// and, where the decimals are not all 0, a point and the decimals without zeros at the end: `-11_038_499` with 3 digits
-/// is `-11.038`, and `-499` is `0`.
+/// and, where the decimals are not all 0, a point and the decimals without zeros at the end: `-11_038_499` with 3
+/// digits is `-11.038`, and `-499` is `0`.
 pub fn print_fx(v: i64, digits: u32, out: &mut [u8; 24]) -> usize
     requires digits_small { digits ≤ 6 }
     requires in_range { unsigned_abs v ≤ max_millionths }

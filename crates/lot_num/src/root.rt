@@ -15,7 +15,7 @@ pub fn isqrt(x: u128) -> u64
     if x == 0 {
         return 0;
     }
-    // The root has half as many binary digits as x.
+    // The root has half as many binary digits as x, rounded up.
     let mut low: u128 = 1 << (x.ilog2() / 2);
     let mut high = 2 * low;
     while low + 1 < high {

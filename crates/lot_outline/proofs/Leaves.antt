@@ -10,33 +10,33 @@ use Rattle.lot_types.specs.Curve.{Curve}
 use Rattle.lot_types.specs.Items.{HasOwnValues, ValuesIn, ItemKind, kind_of, is_leaf, is_leaf_kind}
 use Rattle.lot_types.specs.PropertyValues.{PropertyValues}
 use Rattle.lot_types.specs.Slots.{HasScalar, HasVector, HasBezier}
-use Rattle.lot_outline.specs.Leaf.{contours_of, contours_in, rectangle_contours, ellipse_contours, polystar_contours, contours_of_path}
+use Rattle.lot_outline.specs.Leaf.{leaf_contours, contours_in, rectangle_contours, ellipse_contours, polystar_contours, contours_of_path}
 use Rattle.lot_outline.specs.Reversed.{directed}
 
 -- ---- the contours
 
 pub contours-Rect : (values : PropertyValues) (doc : Doc) (z : Bool) (p s : Prop Point) (r : Prop ℤ) (d : Option ℤ)
     (t : ℤ)
-    → contours_of values doc (Rect z p s r d) t ≡ option_map (directed d) (rectangle_contours values doc p s r t)
-unfolding contours_of
+    → leaf_contours values doc (Rect z p s r d) t ≡ option_map (directed d) (rectangle_contours values doc p s r t)
+unfolding leaf_contours
 contours-Rect values doc z p s r d t = ap (λ x. contours_in values doc x t) (outs-Rect z p s r d)
 
 pub contours-Ellipse : (values : PropertyValues) (doc : Doc) (z : Bool) (p s : Prop Point) (d : Option ℤ) (t : ℤ)
-    → contours_of values doc (Ellipse z p s d) t ≡ option_map (directed d) (ellipse_contours values doc p s t)
-unfolding contours_of
+    → leaf_contours values doc (Ellipse z p s d) t ≡ option_map (directed d) (ellipse_contours values doc p s t)
+unfolding leaf_contours
 contours-Ellipse values doc z p s d t = ap (λ x. contours_in values doc x t) (outs-Ellipse z p s d)
 
 pub contours-Star : (values : PropertyValues) (doc : Doc) (z : Bool) (sy : ℕ) (pt : Prop ℤ) (p : Prop Point)
     (r or_ os ir is_ : Prop ℤ) (d : Option ℤ) (t : ℤ)
-    → contours_of values doc (Star z sy pt p r or_ os ir is_ d) t
+    → leaf_contours values doc (Star z sy pt p r or_ os ir is_ d) t
     ≡ option_map (directed d) (polystar_contours values doc sy pt p r or_ os ir is_ t)
-unfolding contours_of
+unfolding leaf_contours
 contours-Star values doc z sy pt p r or_ os ir is_ d t =
     ap (λ x. contours_in values doc x t) (outs-Star z sy pt p r or_ os ir is_ d)
 
 pub contours-Path : (values : PropertyValues) (doc : Doc) (z : Bool) (ks : Prop Curve) (d : Option ℤ) (t : ℤ)
-    → contours_of values doc (Path z ks d) t ≡ option_map (directed d) (contours_of_path values doc ks t)
-unfolding contours_of
+    → leaf_contours values doc (Path z ks d) t ≡ option_map (directed d) (contours_of_path values doc ks t)
+unfolding leaf_contours
 contours-Path values doc z ks d t = ap (λ x. contours_in values doc x t) (outs-Path z ks d)
 
 pub ruleset leaf_rules = (contours-Rect, contours-Ellipse, contours-Star, contours-Path)

@@ -4,16 +4,16 @@ use Rattle.lot_types.specs.declared.contour.Contour.{Contour}
 use Rattle.lot_types.specs.declared.point.Point.{Point}
 use Rattle.lot_types.specs.declared.seg.Seg.{Seg}
 
-abbrev pub at : ℤ → ℤ → Point
-at x y = record { x = x; y = y }
+abbrev pub point_xy : ℤ → ℤ → Point
+point_xy x y = record { x = x; y = y }
 
 -- The straight segment from one point to another.
-abbrev pub line : Point → Point → Seg
-line from to = record { c1 = from; c2 = to; end = to }
+abbrev pub straight : Point → Point → Seg
+straight from to = record { c1 = from; c2 = to; end = to }
 
 -- The segment by two control points to an end.
-abbrev pub curve : Point → Point → Point → Seg
-curve by and to = record { c1 = by; c2 = and; end = to }
+abbrev pub curved : Point → Point → Point → Seg
+curved by and to = record { c1 = by; c2 = and; end = to }
 
 abbrev pub closed : Point → List Seg → Contour
 closed start segs = record { closed = true; start = start; segs = segs }

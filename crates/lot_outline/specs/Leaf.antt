@@ -63,5 +63,5 @@ contours_in values doc (item.Trim hidden s e o m) t = None
 contours_in values doc (item.Place hidden ks) t = None
 
 -- The contours of a shape of a document at a time, in its direction.
-unfoldable pub contours_of : PropertyValues → Doc → Item → ℤ → Option (List Contour)
-contours_of values d leaf t = contours_in values d (out-Item leaf) t
+unfoldable pub leaf_contours : PropertyValues → Doc → Item → ℤ → Option (List Contour)
+leaf_contours values d leaf t = contours_in values d (out-Item leaf) t

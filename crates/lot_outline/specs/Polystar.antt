@@ -12,7 +12,7 @@ use Rattle.lot_types.specs.Handles.{nearest_in}
 use Rattle.lot_outline.specs.declared.polystar.Polystar.{Polystar}
 use Rattle.lot_outline.specs.declared.polystar.Ring.{Ring}
 use Rattle.lot_outline.specs.declared.polystar.Vertex.{Vertex}
-use Rattle.lot_outline.specs.Closed.{closed, curve}
+use Rattle.lot_outline.specs.Closed.{closed, curved}
 use Rattle.lot_outline.specs.Number.{minus}
 
 -- The number of points: `pt` rounded, from 3 to 1000.
@@ -61,8 +61,8 @@ unfoldable pub along_radius : ℤ → ℤ → ℤ → ℤ
 along_radius x radius part = limit (x +ℤ rnd (radius *ℤ part) (pos (10 ^ 6)))
 
 -- The vertex of a ring at an angle of the given sine and cosine. Its tangent is clockwise along the ring.
-abbrev pub vertex_at : Point → Ring → ℤ → ℤ → Vertex
-vertex_at center ring sine cosine = record {
+abbrev pub ring_vertex : Point → Ring → ℤ → ℤ → Vertex
+ring_vertex center ring sine cosine = record {
   at = record { x = along_radius center.x ring.radius cosine; y = along_radius center.y ring.radius sine };
   tangent = record { x = product ring.tangent (neg_ℤ sine); y = product ring.tangent cosine };
 }
@@ -73,21 +73,21 @@ ring_at s j = if j % 2 == 0 then s.even else s.odd
 
 unfoldable pub vertex : Polystar → ℕ → Vertex
 vertex s j =
-    let angle = vertex_angle s.rotation j s.vertices in vertex_at s.center (ring_at s j) (sine angle) (cosine angle)
+    let angle = vertex_angle s.rotation j s.vertices in ring_vertex s.center (ring_at s j) (sine angle) (cosine angle)
 
 -- The point at an offset the other way.
 abbrev pub moved_back : Point → Point → Point
 moved_back p by = record { x = minus p.x by.x; y = minus p.y by.y }
 
-abbrev pub curve_between : Vertex → Vertex → Seg
-curve_between from to = curve (moved from.at from.tangent) (moved_back to.at to.tangent) to.at
+abbrev pub segment_between : Vertex → Vertex → Seg
+segment_between from to = curved (moved from.at from.tangent) (moved_back to.at to.tangent) to.at
 
 -- The vertex after the last is the first.
 abbrev pub vertex_after : Polystar → ℕ → Vertex
 vertex_after s j = vertex s (if j + 1 == s.vertices then 0 else j + 1)
 
 abbrev pub seg_from : Polystar → ℕ → Seg
-seg_from s j = curve_between (vertex s j) (vertex_after s j)
+seg_from s j = segment_between (vertex s j) (vertex_after s j)
 
 -- The closed contour from each vertex to the next, clockwise.
 unfoldable pub polystar : Polystar → Contour

@@ -9,7 +9,7 @@ use Rattle.lot_types.specs.declared.seg.Seg.{Seg}
 use Rattle.lot_types.specs.Handles.{nearest_in}
 use Rattle.lot_outline.specs.declared.sides.Sides.{Sides}
 use Rattle.lot_outline.specs.Arc.{arc_handle}
-use Rattle.lot_outline.specs.Closed.{at, line, curve, closed}
+use Rattle.lot_outline.specs.Closed.{point_xy, straight, curved, closed}
 use Rattle.lot_outline.specs.Number.{minus, half}
 use Rattle.lot_outline.specs.Sides.{sides_around, inset}
 
@@ -21,35 +21,35 @@ corner_radius s r = nearest_in (pos 0, int_min (half s.x) (half s.y)) r
 -- From the right upper corner, clockwise.
 abbrev pub sharp_segs : Sides → List Seg
 sharp_segs b =
-    line (at b.right b.top) (at b.right b.bottom)
-    ∷ line (at b.right b.bottom) (at b.left b.bottom)
-    ∷ line (at b.left b.bottom) (at b.left b.top)
-    ∷ line (at b.left b.top) (at b.right b.top)
+    straight (point_xy b.right b.top) (point_xy b.right b.bottom)
+    ∷ straight (point_xy b.right b.bottom) (point_xy b.left b.bottom)
+    ∷ straight (point_xy b.left b.bottom) (point_xy b.left b.top)
+    ∷ straight (point_xy b.left b.top) (point_xy b.right b.top)
     ∷ []
 
 -- From below the right upper corner, clockwise: straight along the sides b as far as the lines i, which are the radius
 -- further in, and round each corner by control points on the lines h.
 unfoldable pub rounded_segs : Sides → Sides → Sides → List Seg
 rounded_segs b i h =
-    line (at b.right i.top) (at b.right i.bottom)
-    ∷ curve (at b.right h.bottom) (at h.right b.bottom) (at i.right b.bottom)
-    ∷ line (at i.right b.bottom) (at i.left b.bottom)
-    ∷ curve (at h.left b.bottom) (at b.left h.bottom) (at b.left i.bottom)
-    ∷ line (at b.left i.bottom) (at b.left i.top)
-    ∷ curve (at b.left h.top) (at h.left b.top) (at i.left b.top)
-    ∷ line (at i.left b.top) (at i.right b.top)
-    ∷ curve (at h.right b.top) (at b.right h.top) (at b.right i.top)
+    straight (point_xy b.right i.top) (point_xy b.right i.bottom)
+    ∷ curved (point_xy b.right h.bottom) (point_xy h.right b.bottom) (point_xy i.right b.bottom)
+    ∷ straight (point_xy i.right b.bottom) (point_xy i.left b.bottom)
+    ∷ curved (point_xy h.left b.bottom) (point_xy b.left h.bottom) (point_xy b.left i.bottom)
+    ∷ straight (point_xy b.left i.bottom) (point_xy b.left i.top)
+    ∷ curved (point_xy b.left h.top) (point_xy h.left b.top) (point_xy i.left b.top)
+    ∷ straight (point_xy i.left b.top) (point_xy i.right b.top)
+    ∷ curved (point_xy h.right b.top) (point_xy b.right h.top) (point_xy b.right i.top)
     ∷ []
 
 abbrev pub sharp : Sides → Contour
-sharp b = closed (at b.right b.top) (sharp_segs b)
+sharp b = closed (point_xy b.right b.top) (sharp_segs b)
 
 -- With corners of the radius r.
 abbrev pub rounded : Sides → ℤ → Contour
 rounded b r =
     let corners = inset b r in
     let handles = inset b (minus r (arc_handle r)) in
-    closed (at b.right corners.top) (rounded_segs b corners handles)
+    closed (point_xy b.right corners.top) (rounded_segs b corners handles)
 
 abbrev pub with_corners : Sides → ℤ → Contour
 with_corners b r = if int_eq r (pos 0) then sharp b else rounded b r

@@ -1,6 +1,6 @@
 //! Closed contours and their segments.
 ghost use Rattle.std.specs.Prelude.{◌≡◌, IfOk};
-ghost use Rattle.lot_outline.specs.Closed.{at as at_in, line as line_in, curve as curve_in, closed as closed_in};
+ghost use Rattle.lot_outline.specs.Closed.{point_xy, straight as straight_in, curved as curved_in, closed as closed_in};
 
 use lot_types::{Contour, Fx, Memory, Point, Seg, Seq};
 use std::alloc::Global;
@@ -30,14 +30,14 @@ fn list_of(alloc: Global, segs: &[Seg]) -> Result<Seq<Seg>, Memory>
 
 /// The point of two coordinates.
 pub(crate) fn at(x: Fx, y: Fx) -> Point
-    ensures { result ≡ at_in x y }
+    ensures { result ≡ point_xy x y }
 {
     Point { x, y }
 }
 
 /// The straight segment from one point to another.
 pub(crate) fn line(from: Point, to: Point) -> Seg
-    ensures { result ≡ line_in from to }
+    ensures { result ≡ straight_in from to }
 {
     let c2 = to;
     Seg {
@@ -49,7 +49,7 @@ pub(crate) fn line(from: Point, to: Point) -> Seg
 
 /// The segment by two control points to an end.
 pub(crate) fn curve(c1: Point, c2: Point, end: Point) -> Seg
-    ensures { result ≡ curve_in c1 c2 end }
+    ensures { result ≡ curved_in c1 c2 end }
 {
     Seg { c1, c2, end }
 }

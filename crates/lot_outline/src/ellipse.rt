@@ -9,8 +9,8 @@ use crate::sides::Sides;
 use lot_types::{Contour, Memory, Point, Seg};
 use std::alloc::Global;
 
-/// The ellipse about the center `p` of the size `s`, in millionths of a pixel: a closed contour, clockwise from the top,
-/// after the Lottie Specification 1.0, "Ellipse".
+/// The ellipse about the center `p` of the size `s`, in millionths of a pixel: a closed contour, clockwise from the
+/// top, after the Lottie Specification 1.0, "Ellipse".
 ///
 /// A size counts by its magnitude. Want of memory is the one refusal.
 #[tactic(auto, unfolding(crate::specs::Ellipse::ellipse))]

@@ -4,7 +4,7 @@ ghost use Rattle.std.specs.Int.{int_min};
 ghost use Rattle.lot_num.specs.Round.{product, rnd};
 ghost use Rattle.lot_outline.specs.Number.{plus as plus_in, minus as minus_in, half as half_in};
 
-use lot_geom::limited;
+use lot_geom::{exact_product, limited};
 use lot_num::{mul_fx, rnd_div};
 use lot_types::Fx;
 
@@ -40,14 +40,6 @@ pub(crate) fn rounded_product(x: Fx, y: Fx) -> i128
     ensures small { unsigned_abs result ≤ 10 ^ 26 }
 {
     rnd_div(exact_product(x, y), 1_000_000)
-}
-
-/// The product of two numbers, neither rounded nor limited.
-pub(crate) fn exact_product(x: Fx, y: Fx) -> i128
-    ensures value { result ≡ x *ℤ y }
-    ensures small { unsigned_abs result ≤ 10 ^ 26 }
-{
-    x.get() as i128 * y.get() as i128
 }
 
 /// A hundredth, rounded.

@@ -2,11 +2,11 @@
 ghost use Rattle.std.specs.Prelude.{◌≡◌, ◌≤◌, ◌<◌, ◌*◌, ◌^◌, ◌*ℤ◌, pos, unsigned_abs, map, IfOk};
 ghost use Rattle.std.specs.List.{range_with_len};
 ghost use Rattle.lot_num.specs.Angle.{sine, cosine};
-ghost use Rattle.lot_outline.specs.Polystar.{polystar as polystar_in, polystar_of_kind, point_count as point_count_in, ring_of, ring_at, tangent_length as tangent_length_in, vertex as vertex_in, vertex_at as vertex_at_in, vertex_angle as vertex_angle_in, turn_to as turn_to_in, along_radius as along_radius_in, curve_between as curve_between_in, moved_back as moved_back_in, seg_from};
+ghost use Rattle.lot_outline.specs.Polystar.{polystar as polystar_in, polystar_of_kind, point_count as point_count_in, ring_of, ring_at, tangent_length as tangent_length_in, vertex as vertex_in, ring_vertex as ring_vertex_in, vertex_angle as vertex_angle_in, turn_to as turn_to_in, along_radius as along_radius_in, segment_between as segment_between_in, moved_back as moved_back_in, seg_from};
 
 use crate::closed::curve;
-use crate::number::{exact_product, hundredth, minus, rounded_product, times};
-use lot_geom::{limited, moved, negated};
+use crate::number::{hundredth, minus, rounded_product, times};
+use lot_geom::{exact_product, limited, moved, negated};
 use lot_num::{cos_fx, rnd_div, sin_fx};
 use lot_types::{Contour, Fx, Memory, Point, Seg, Seq};
 use std::alloc::Global;
@@ -217,7 +217,7 @@ fn cosine_of(angle: Fx) -> Fx
 
 /// The vertex of a ring at an angle of the given sine and cosine.
 fn vertex_at(center: &Point, ring: &Ring, sine: Fx, cosine: Fx) -> Vertex
-    ensures { result ≡ vertex_at_in center.now ring.now sine cosine }
+    ensures { result ≡ ring_vertex_in center.now ring.now sine cosine }
 {
     Vertex {
         at: Point {
@@ -241,7 +241,7 @@ fn along_radius(x: Fx, radius: Fx, part: Fx) -> Fx
 
 /// The segment from one vertex to another.
 fn curve_between(from: &Vertex, to: &Vertex) -> Seg
-    ensures { result ≡ curve_between_in from.now to.now }
+    ensures { result ≡ segment_between_in from.now to.now }
 {
     curve(
         moved(from.at, from.tangent),

@@ -19,9 +19,9 @@ abbrev pub mapped_contours : Outline × Matrix → List Contour
 mapped_contours p = map (mapped_contour p.1) p.0.contours
 
 -- The leaves that a style paints, each with its map.
-abbrev pub painted_leaves : Painted → List Outline → List (Outline × Matrix)
-painted_leaves at leaves = zip (slice_range leaves at.from at.to) at.maps
+abbrev pub leaves_with_maps : Painted → List Outline → List (Outline × Matrix)
+leaves_with_maps at leaves = zip (slice_range leaves at.from at.to) at.maps
 
 -- The contours of these leaves, in order.
 abbrev pub painted_contours : Painted → List Outline → List Contour
-painted_contours at leaves = flat_map mapped_contours (painted_leaves at leaves)
+painted_contours at leaves = flat_map mapped_contours (leaves_with_maps at leaves)

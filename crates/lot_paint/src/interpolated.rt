@@ -27,8 +27,8 @@ pub(crate) fn color_at(stops: &[ListStop<Color>], k: usize, x: Fx) -> Color
     color_between(before, &stops[k], x)
 }
 
-/// The opacity at the offset `x` of a list of opacity stops, of which the first `k` are not above `x`. It is 1 where the
-/// list is empty.
+/// The opacity at the offset `x` of a list of opacity stops, of which the first `k` are not above `x`. It is 1 where
+/// the list is empty.
 pub(crate) fn opacity_at(stops: &[ListStop<Fx>], k: usize, x: Fx) -> Fx
     requires { IsReached stops.now x k }
     ensures { result ≡ opacity_in stops.now x }

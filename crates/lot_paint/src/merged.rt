@@ -12,8 +12,8 @@ use std::alloc::Global;
 use std::cmp::Ordering;
 
 /// The stops of a gradient in order of their offsets: all color stops, and the opacity stops at whose offset there is
-/// no color stop. A color stop has the opacity at its offset, and an opacity stop the color at its own. Want of memory is
-/// the one refusal.
+/// no color stop. A color stop has the opacity at its offset, and an opacity stop the color at its own. Want of
+/// memory is the one refusal.
 pub(crate) fn merged_stops(alloc: Global, g: &Gradient) -> Result<Seq<Stop>, Memory>
     ensures { IfOk result (λ made. made ≡ merged_stops_in g.now) }
 {

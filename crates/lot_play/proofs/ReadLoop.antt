@@ -9,7 +9,8 @@ use Rattle.lot_play.specs.Folder.{FolderState, SameContents, SameServed, ReadsIn
 abbrev pub IsPrefixOf : List ℕ → List ℕ → Type 0
 IsPrefixOf bytes content = (rest : List ℕ) × (content ≡ bytes ++ rest)
 
--- These bytes were read of the named content, each once, where the folder was as the first state says and is as the second.
+-- These bytes were read of the named content, each once, where the folder was as the first state says and is as the
+-- second.
 pub record IsRead (folder now : FolderState) (name bytes : List ℕ) : Type 0 where
   pub prefix : (content : List ℕ) → folder.content name ≡ Some content → IsPrefixOf bytes content
   pub given : RoseBy (length bytes) folder.given now.given

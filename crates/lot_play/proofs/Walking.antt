@@ -1,6 +1,6 @@
 -- One layer more is written.
 use Rattle.std.proofs.Common.{◌≡◌, ℕ, ℤ, ◌+◌, ◌≤◌, List, ◌∷◌, length, arith, true, false, Bool, Option, None, Some, option_map, refl, sym, ap, ◌∙◌, if◌then◌else◌}
-use Rattle.lot_comp.specs.Frame.{evaluated, node_with, piece_at, node_of, with_layer, is_visible, nodes}
+use Rattle.lot_comp.specs.Frame.{evaluated_frame, node_with, piece_at, node_of, with_layer, is_visible, nodes}
 use Rattle.lot_comp.specs.Full.{layer_at}
 use Rattle.lot_comp.specs.Piece.{piece_of}
 use Rattle.lot_play.specs.Walk.{after_frame, after_piece}
@@ -23,8 +23,8 @@ with_rest p (Some f) s = refl
 one_written : (d : Doc) (c l : ℕ) (t : ℤ) (p : Piece) (rest : Frame Visit) (s : Written) → piece_of d c l t ≡ Some p
     → after_frame d (node_of c l t rest) s ≡ after_frame d rest (after_piece p s)
 one_written d c l t p rest s is =
-    ap (λ (o : Option Piece). option_map (λ f. write (λ q. q) f s) (node_with No None o (Some nothing) (Some nothing) (evaluated (piece_at d) rest))) is
-    ∙ with_rest p (evaluated (piece_at d) rest) s
+    ap (λ (o : Option Piece). option_map (λ f. write (λ q. q) f s) (node_with No None o (Some nothing) (Some nothing) (evaluated_frame (piece_at d) rest))) is
+    ∙ with_rest p (evaluated_frame (piece_at d) rest) s
 
 picked : (b : Bool) (x y : Frame Visit) → b ≡ true → (if b then x else y) ≡ x
 picked true x y e = refl

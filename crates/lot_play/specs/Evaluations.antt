@@ -27,8 +27,8 @@ unfoldable pub most_evaluated : Doc → Task → ℕ
 most_evaluated d Check = 0
 most_evaluated d (Frame time) = shown_at d (moment d time)
 
--- What a counter of evaluated layers does in a task on a tree: it stays where there is a fault, and on an accepted document
--- it rises by no more than that.
+-- What a counter of evaluated layers does in a task on a tree: it stays where there is a fault, and on an accepted
+-- document it rises by no more than that.
 pub record EvaluatesTree (j : Json) (task : Task) (before now : ℕ) : Type 0 where
   pub fault : (f : Fault) → first (judged j).faults ≡ Some f → now ≡ before
   pub document : (d : Doc) → (judged j).faults ≡ [] → (judged j).value ≡ Some d → now ≤ before + most_evaluated d task

@@ -18,8 +18,8 @@ use lot_types::{Bytes, Layer, LayerKind, Matrix, Memory, Paint, Piece, Steps, Ti
 use std::alloc::Global;
 use std::sync::ledger::Ledger;
 
-/// The frame of a document at a time, in millionths of a frame, as SVG. Each layer that it shows is evaluated at most once,
-/// and no other. Want of memory is the one refusal.
+/// The frame of a document at a time, in millionths of a frame, as SVG. Each layer that it shows is evaluated at most
+/// once, and no other. Want of memory is the one refusal.
 #[tactic(auto, unfolding(crate::specs::Picture::svg_of))]
 pub fn draw_frame<L: Ledger>(
     alloc: Global,
@@ -57,7 +57,8 @@ fn write_layers<L: Ledger>(
     write_drawn(alloc, d, c, t, matrices.items(), w, steps)
 }
 
-/// Writes the layers of composition `c` that are drawn, from the last to the first. The full matrix of each layer is given.
+/// Writes the layers of composition `c` that are drawn, from the last to the first. The full matrix of each layer is
+/// given.
 fn write_drawn<L: Ledger>(
     alloc: Global,
     d: &Linked,

@@ -21,8 +21,8 @@ use lot_types::{Doc, Memory, Refusal, Steps, Time};
 use std::alloc::Global;
 use std::sync::ledger::Ledger;
 
-/// Answers a task on the content of a document: the place where it stops being JSON, or its first fault, or what the task
-/// asks for. Only the layers that a frame shows are evaluated, each at most once.
+/// Answers a task on the content of a document: the place where it stops being JSON, or its first fault, or what the
+/// task asks for. Only the layers that a frame shows are evaluated, each at most once.
 pub fn judge<L: Ledger>(
     alloc: Global,
     content: &[u8],

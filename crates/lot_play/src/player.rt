@@ -26,9 +26,9 @@ use std::sync::ledger::Ledger;
 
 /// Runs the program on the arguments after its name, and answers how it ended.
 ///
-/// `check DOC` writes whether the document `DOC` is accepted, and `frame DOC TIME` writes its frame at `TIME`, in frames, as
-/// SVG. Any other arguments are no command: the status is [`Status::Usage`], and neither the folder nor the sink is used.
-/// The folder has to serve the name `DOC`. `steps` counts the layers that are evaluated.
+/// `check DOC` writes whether the document `DOC` is accepted, and `frame DOC TIME` writes its frame at `TIME`, in
+/// frames, as SVG. Any other arguments are no command: the status is [`Status::Usage`], and neither the folder nor
+/// the sink is used. The folder has to serve the name `DOC`. `steps` counts the layers that are evaluated.
 pub fn run<F: Folder, K: Sink, L: Ledger>(
     alloc: Global,
     arguments: &Seq<Text>,
@@ -75,8 +75,8 @@ pub fn run<F: Folder, K: Sink, L: Ledger>(
     ensures same { SameContents (F.state folder.old) (F.state folder.new) }
     ensures served { SameServed (F.serves folder.old) (F.serves folder.new) }
 
-    // Only a frame is evaluated: of a document that is known, each layer that the frame shows at most once, and of any no
-    // more layers than a composition may have.
+    // Only a frame is evaluated: of a document that is known, each layer that the frame shows at most once, and of
+    // any no more layers than a composition may have.
     ensures uncounted { (AskForFrame arguments.now → ⊥) → steps.new ≡ steps.old }
     ensures evaluated { (document content : List ℕ) (task : Task)
         → AskFor arguments.now (document ∷ []) task

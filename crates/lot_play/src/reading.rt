@@ -15,8 +15,8 @@ pub const MAX_DOCUMENT_BYTES: usize = 16_777_216;
 
 /// Reads the content of a name, once and to its end.
 ///
-/// It answers the content, or that it has more than [`MAX_DOCUMENT_BYTES`], or that the folder failed. The folder's contents
-/// are as before in every case.
+/// It answers the content, or that it has more than [`MAX_DOCUMENT_BYTES`], or that the folder failed. The folder's
+/// contents are as before in every case.
 pub fn read_all<F: Folder>(alloc: Global, folder: &mut F, name: &str) -> Result<Bytes, ReadRefusal>
     requires { F.serves folder.old name.now }
     ensures content { IfOk result (λ b. (content : List ℕ)

@@ -9,11 +9,11 @@ use crate::part::Part;
 use lot_types::{Doc, Duplicate, Fx, Gradient, Memory, Prop, Seq, SlotValue, Time, Track};
 use std::alloc::Global;
 
-/// The value of a gradient property of a document at a time, in millionths, limited to the range. Want of memory is the one
-/// refusal.
+/// The value of a gradient property of a document at a time, in millionths, limited to the range. Want of memory is
+/// the one refusal.
 ///
-/// A slot that the property names has to be there and to be a gradient. Two gradients of different numbers of numbers are
-/// not joined: the first is held.
+/// A slot that the property names has to be there and to be a gradient. Two gradients of different numbers of numbers
+/// are not joined: the first is held.
 #[tactic(auto, unfolding(crate::specs::Slots::gradient_value))]
 pub fn value_gradient(
     alloc: Global,

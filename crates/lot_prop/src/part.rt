@@ -55,7 +55,7 @@ impl Part {
         }
     }
 
-    /// How far the component `c` of a value has come, from 0 to 2.
+    /// How far the component `c` of a value has come; `c` is from 0 to 2.
     pub fn progress(&self, c: usize) -> Progress
         requires { c < 3 }
         ensures { (s0 s1 : ℤ) → between s0 s1 result.num result.den ≡ eased_in c self.now s0 s1 }
@@ -72,7 +72,8 @@ impl Part {
         }
     }
 
-    /// A number that goes from `s0` to `s1`, as the component `c` of a value, from 0 to 2. The result is limited to the range.
+    /// A number that goes from `s0` to `s1`, as the component `c` of a value, from 0 to 2. The result is limited to
+    /// the range.
     pub fn eased(&self, c: usize, s0: Fx, s1: Fx) -> Fx
         requires { c < 3 }
         ensures { result ≡ eased_in c self.now s0 s1 }

@@ -28,8 +28,8 @@ pub fn matrix_at(d: &Doc, x: &Transform, t: Time) -> Matrix
     of_transform_values(a, p, s, r, sk, sa)
 }
 
-/// An opacity of a document at a time as a fraction in millionths, from 0 to 1. The property is in per cent, and is limited
-/// to 0 to 100.
+/// An opacity of a document at a time as a fraction in millionths, from 0 to 1. The property is in per cent, and is
+/// limited to 0 to 100.
 ///
 /// A slot that the property names has to be there and to be a scalar. It takes no memory.
 #[tactic(auto, unfolding(crate::specs::Transform::opacity_value))]

@@ -10,11 +10,11 @@ abbrev pub whole_number : ℤ → Option ℕ
 whole_number (pos n) = if n % 10 ^ 6 == 0 then Some (n / 10 ^ 6) else None
 whole_number (negsuc n) = None
 
-abbrev pub within : ℕ → ℕ → ℕ → Option ℕ
-within low high n = if nat_le low n && nat_le n high then Some n else None
+abbrev pub limited_to : ℕ → ℕ → ℕ → Option ℕ
+limited_to low high n = if nat_le low n && nat_le n high then Some n else None
 
 abbrev pub allowed : ℕ → ℕ → ℤ → Option ℕ
-allowed low high z = whole_number z >>= within low high
+allowed low high z = whole_number z >>= limited_to low high
 
 abbrev pub allowed_or_refused : List Step → Option ℕ → Findings ℕ
 allowed_or_refused at (Some n) = good n

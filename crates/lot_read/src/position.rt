@@ -13,7 +13,8 @@ use crate::vector::VectorValue;
 use lot_types::{Position, Refusal};
 
 /// Reads a position, in pixels: a property of vectors, or, where its flag `s` is true, one of scalars for each of the
-/// needed members `x` and `y`. A position whose flag has a fault is read on as a property of vectors.
+/// needed members `x` and `y`. Where the flag has a fault, that fault comes first, and the position
+/// is then read as a property of vectors.
 #[derive(Clone, Copy)]
 pub struct PositionOf<'a> {
     pub names: &'a SlotNames,

@@ -67,7 +67,8 @@ impl Model for Linked {
 
     ghost view = { λ it. it.doc };
 
-    ghost invariant = { λ it. (it.parents ≡ parent_tables it.doc.comps) × (it.drawn ≡ drawn_tables it.doc.comps) × IsValid it.doc };
+    ghost invariant = { λ it. (it.parents ≡ parent_tables it.doc.comps)
+        × (it.drawn ≡ drawn_tables it.doc.comps) × IsValid it.doc };
 }
 
 impl Linked {
@@ -91,8 +92,8 @@ impl Linked {
         parent
     }
 
-    /// The numbers of the layers of composition `c` that are drawn by themselves, in order. It takes constant time and no
-    /// memory.
+    /// The numbers of the layers of composition `c` that are drawn by themselves, in order. It takes constant time
+    /// and no memory.
     pub fn drawn_layers(&self, c: u32) -> &[u32]
         requires comp { c < length self.now.comps }
         ensures value { result.now ≡ drawn_layers (layers_of self.now c) }

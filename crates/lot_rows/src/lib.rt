@@ -1,27 +1,22 @@
-//! Tests that cross the crates, over small folders and sinks whose calls can fail.
+//! Tests that cross the crates, of what no document shows: runs over folders and sinks whose calls are short or fail,
+//! the real folder, the decoder by pieces, slots, and numbers beyond those of documents.
 #![tactic(auto)]
 
 #[cfg(test)]
+mod arithmetic;
+#[cfg(test)]
+mod decoder;
+#[cfg(test)]
 mod documents;
 #[cfg(test)]
-mod first_fault;
-#[cfg(test)]
-mod first_frame;
-#[cfg(test)]
 mod in_memory;
-#[cfg(test)]
-mod keyframes;
-#[cfg(test)]
-mod long_numbers;
 #[cfg(test)]
 mod one_file;
 #[cfg(test)]
 mod outside_fails;
 #[cfg(test)]
-mod parents;
-#[cfg(test)]
 mod real_files;
 #[cfg(test)]
 mod short_sink;
 #[cfg(test)]
-mod syntax_offsets;
+mod slots;

@@ -5,7 +5,8 @@ ghost use Rattle.lot_play.specs.RealFolder.{no_content};
 use lot_play::Folder;
 use lot_types::Failed;
 
-/// A folder whose every name has one content, which it gives in pieces of a greatest length, and of which one read fails.
+/// A folder whose every name has one content, which it gives in pieces of a greatest length, and of which one read
+/// fails.
 #[derive(Drop)]
 pub struct OneFile<'a> {
     content: &'a [u8],

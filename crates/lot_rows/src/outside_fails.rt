@@ -1,11 +1,20 @@
-//! A read or a write that fails, at each call in turn, and documents at the limit of length.
+//! Reads and writes of short pieces, and one that fails, at each call in turn.
 use crate::documents::{SOLID, SOLID_SVG};
 use crate::one_file::OneFile;
 use crate::short_sink::{ShortSink, run_on};
 use lot_play::Status;
-use lot_types::Memory;
-use std::alloc::Global;
 use std::test::Fail;
+
+#[test]
+fn short_pieces_give_the_whole_frame(rt: HostRuntime) -> Result<(), Fail> {
+    let alloc = rt.alloc();
+    let mut folder = OneFile::new(SOLID.as_bytes(), 5);
+    let mut sink = ShortSink::new(alloc, 7);
+    let ended = run_on(alloc, &["frame", "-", "0"], &mut folder, &mut sink)?;
+    assert_eq!(rt; ended, Status::Done);
+    assert_eq!(rt; sink.text(), SOLID_SVG);
+    Ok(())
+}
 
 /// The document has 112 bytes: twelve reads of at most ten bytes, and one that finds its end.
 #[test]
@@ -35,31 +44,5 @@ fn each_failing_write_leaves_a_prefix_of_the_frame(rt: HostRuntime) -> Result<()
         assert_eq!(rt; taken.len() as u64, 40 * (n - 1));
         assert!(rt; SOLID_SVG.as_bytes().starts_with(taken));
     }
-    Ok(())
-}
-
-/// Runs the program on a document of `count` spaces.
-fn run_on_spaces(
-    alloc: Global,
-    count: usize,
-    piece: usize,
-    sink: &mut ShortSink,
-) -> Result<Status, Memory> {
-    let mut document = Vec::new(alloc);
-    document.resize(count, b' ')?;
-    let mut folder = OneFile::new(document.as_slice(), piece);
-    run_on(alloc, &["frame", "-", "0"], &mut folder, sink)
-}
-
-#[test]
-fn a_document_has_at_most_16_777_216_bytes(rt: HostRuntime) -> Result<(), Fail> {
-    let alloc = rt.alloc();
-    let mut sink = ShortSink::new(alloc, 4096);
-    let longer = run_on_spaces(alloc, 16_777_217, 65536, &mut sink)?;
-    assert_eq!(rt; longer, Status::TooLong);
-    assert_eq!(rt; sink.writes, 0);
-    let longest = run_on_spaces(alloc, 16_777_216, 1_000_000, &mut sink)?;
-    assert_eq!(rt; longest, Status::Refused);
-    assert_eq!(rt; sink.text(), "syntax 16777216\n");
     Ok(())
 }

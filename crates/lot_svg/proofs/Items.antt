@@ -7,7 +7,7 @@ use Rattle.lot_types.specs.declared.matte.Matte.TheVariants.{No, Alpha, AlphaInv
 use Rattle.lot_types.specs.declared.piece.Piece.{Piece}
 use Rattle.lot_types.specs.declared.paint.Paint.{Paint}
 use Rattle.lot_types.specs.Frame.{Frame, nothing, node}
-use Rattle.lot_svg.specs.Items.{Item, plain, opens, ends, refers, bytes_of, opened, opened_by, parts, text}
+use Rattle.lot_svg.specs.Items.{Item, plain, opens, ends, refers, bytes_of, opened, opened_by, parts, text_of_items}
 use Rattle.lot_svg.specs.Paint.{paint_items}
 use Rattle.lot_svg.specs.Matte.{has_matte, matte_opening, matte_closing, mask_of, mask_use}
 use Rattle.lot_svg.specs.Layer.{items, group_opening, clip_opening, clip_closing, layer_closing}
@@ -34,11 +34,11 @@ next_after (item ∷ after) s =
     next_after after (put s item) ∙ ap (λ (n : ℕ). n + opened_by after) (next_after_one item s)
     ∙ add_assoc s.next (opened item) (opened_by after)
 
-pub bytes_after : (list : List Item) (s : Written) → (add list s).bytes ≡ s.bytes ++ text list
+pub bytes_after : (list : List Item) (s : Written) → (add list s).bytes ≡ s.bytes ++ text_of_items list
 bytes_after [] s = sym (append-nil s.bytes)
 bytes_after (item ∷ after) s =
-    bytes_after after (put s item) ∙ ap (λ (bytes : List ℕ). bytes ++ text after) (bytes_after_one item s)
-    ∙ append_assoc s.bytes (bytes_of item) (text after)
+    bytes_after after (put s item) ∙ ap (λ (bytes : List ℕ). bytes ++ text_of_items after) (bytes_after_one item s)
+    ∙ append_assoc s.bytes (bytes_of item) (text_of_items after)
 
 -- Each part in turn.
 abbrev run : List (ℕ → List Item) → Written → Written
@@ -103,5 +103,5 @@ writes_svg w h piece f =
     let start = begin w h unwritten in
     ap (λ (s : Written). s.bytes ++ tail_text) (writes piece f start)
     ∙ ap (λ (bytes : List ℕ). bytes ++ tail_text) (bytes_after (items piece f start.next) start)
-    ∙ ap (λ (bytes : List ℕ). (bytes ++ text (items piece f start.next)) ++ tail_text) (start_bytes w h)
-    ∙ ap (λ (n : ℕ). (head_text w h ++ text (items piece f n)) ++ tail_text) (start_next w h)
+    ∙ ap (λ (bytes : List ℕ). (bytes ++ text_of_items (items piece f start.next)) ++ tail_text) (start_bytes w h)
+    ∙ ap (λ (n : ℕ). (head_text w h ++ text_of_items (items piece f n)) ++ tail_text) (start_next w h)

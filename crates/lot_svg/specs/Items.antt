@@ -23,9 +23,9 @@ bytes_of (opens before n) = before ++ identifier_text n
 bytes_of (ends bytes n) = bytes
 bytes_of (refers before n) = before ++ identifier_text n
 
-abbrev pub text : List Item → List ℕ
-text [] = []
-text (item ∷ after) = bytes_of item ++ text after
+abbrev pub text_of_items : List Item → List ℕ
+text_of_items [] = []
+text_of_items (item ∷ after) = bytes_of item ++ text_of_items after
 
 -- How many definitions an item opens.
 abbrev pub opened : Item → ℕ

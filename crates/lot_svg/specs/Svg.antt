@@ -4,7 +4,7 @@ use Rattle.lot_types.specs.declared.piece.Piece.{Piece}
 use Rattle.lot_types.specs.Frame.{Frame}
 use Rattle.lot_svg.specs.Element.{attribute, open_tag, close_tag}
 use Rattle.lot_svg.specs.Number.{length_text, length_attribute}
-use Rattle.lot_svg.specs.Items.{text}
+use Rattle.lot_svg.specs.Items.{text_of_items}
 use Rattle.lot_svg.specs.Layer.{items}
 
 -- The part of the plane that the picture shows.
@@ -35,4 +35,4 @@ tail_text = close_tag (codes "svg")
 
 -- The whole text: the root element of w by h pixels, and the layers in it. Identifiers count from 1.
 abbrev pub svg_text : {A : Type 0} → ℤ → ℤ → (A → Piece) → Frame A → List ℕ
-svg_text w h piece frame = head_text w h ++ text (items piece frame 1) ++ tail_text
+svg_text w h piece frame = head_text w h ++ text_of_items (items piece frame 1) ++ tail_text

@@ -11,12 +11,13 @@ use std::alloc::Global;
 /// The members of a trim at a time.
 #[derive(Clone, Copy)]
 pub struct TrimCut {
-    /// One end of what is kept, in millionths of a per cent of the length, limited to 0 to 100 per cent.
+    /// One end of what is kept, in millionths of a per cent of the length. It is limited to 0 to 100 per cent
+    /// where it is used.
     pub s: Fx,
     /// The other end. The smaller of both is the first.
     pub e: Fx,
-    /// How far both are moved along the length, in millionths of a degree: 360 degrees are the whole length. What passes
-    /// the end comes in again at the start.
+    /// How far both are moved along the length, in millionths of a degree: 360 degrees are the whole length. What
+    /// passes the end comes in again at the start.
     pub o: Fx,
 }
 

@@ -9,8 +9,8 @@ use crate::run::OutlineLengths;
 use lot_types::{Contour, Memory, Outline, Seq};
 use std::alloc::Global;
 
-/// What the intervals keep of the contours of an outline, which begins at the length `start` of the run. `start` becomes
-/// the length at which it ends. Want of memory is the one refusal.
+/// What the intervals keep of the contours of an outline, which begins at the length `start` of the run. `start`
+/// becomes the length at which it ends. Want of memory is the one refusal.
 pub(crate) fn kept_contours(
     alloc: Global,
     intervals: &[Interval],

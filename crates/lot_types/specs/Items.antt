@@ -1,5 +1,5 @@
 -- The items of a shape layer: what each does, and all that a list holds. After the Lottie Specification 1.0, "Shapes".
-use Rattle.std.specs.Prelude.{ℕ, ◌≤◌, Bool, true, false, List, [], ◌∷◌, flat_map, length}
+use Rattle.std.specs.Prelude.{◌≤◌, Bool, true, false, List, [], ◌∷◌, flat_map, length}
 use Rattle.std.specs.List.{All}
 use Rattle.lot_types.specs.declared.dash.Dash.{Dash}
 use Rattle.lot_types.specs.declared.doc.Doc.{Doc}

@@ -4,8 +4,8 @@ use Rattle.std.specs.Prelude.{◌≡◌, ℕ, ℤ, ◌+◌, ◌-◌, ◌<◌, �
 use Rattle.lot_types.specs.declared.key.Key.{Key}
 use Rattle.lot_types.specs.Limits.{max_list_items}
 
--- There is at least one keyframe and at most as many as a list may have, and the time of each is at most the time of the
--- next.
+-- There is at least one keyframe and at most as many as a list may have, and the time of each is at most the time of
+-- the next.
 pub record IsTimeline {A : Type 0} (keys : List (Key A)) : Type 0 where
   pub some : 0 < length keys
   pub few : length keys ≤ max_list_items

@@ -7,8 +7,8 @@ pub record Ramp : Type 0 where
   pub stops : ℕ
   pub flat : List ℤ
 
--- A gradient has four numbers for each of its stops, and after these pairs of an offset and an opacity; in all at most as
--- many as a list may have.
+-- A gradient has four numbers for each of its stops, and after these pairs of an offset and an opacity; in all at
+-- most as many as a list may have.
 pub record HasStops (stops numbers : ℕ) : Type 0 where
   pub some : 0 < stops
   pub colors : 4 * stops ≤ numbers

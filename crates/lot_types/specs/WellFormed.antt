@@ -1,5 +1,5 @@
 -- Documents as the reader answers them: all that is asked of a document but that its references hold.
-use Rattle.std.specs.Prelude.{◌≡◌, ℕ, pos, ◌<◌, ◌≤◌, ◌<ℤ◌, List, [], ◌∷◌, length, IsSome}
+use Rattle.std.specs.Prelude.{◌≡◌, pos, ◌<◌, ◌≤◌, ◌<ℤ◌, List, [], ◌∷◌, length, IsSome}
 use Rattle.std.specs.List.{All}
 use Rattle.lot_types.specs.declared.comp.Comp.{Comp}
 use Rattle.lot_types.specs.declared.doc.Doc.{Doc}

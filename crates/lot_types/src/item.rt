@@ -1,6 +1,7 @@
 //! Shapes, styles and groups of shape layers.
 
 ghost use Rattle.std.specs.Prelude.{◌≡◌, IfOk};
+ghost use Rattle.lot_types.specs.declared.item.Item.TheVariants as item;
 ghost use Rattle.lot_types.specs.Items.{is_hidden as is_hidden_in};
 
 use crate::duplicate::{copy_four, copy_three, copy_two};
@@ -161,25 +162,8 @@ fn copy_item(item: &Item) -> Result<Item, Memory>
                 it: made,
             })
         }
-        Item::Rect { hidden, p, s, r, d } => {
-            let (p, s, r) = copy_three(p, s, r)?;
-            Ok(Item::Rect {
-                hidden: *hidden,
-                p,
-                s,
-                r,
-                d: *d,
-            })
-        }
-        Item::Ellipse { hidden, p, s, d } => {
-            let (p, s) = copy_two(p, s)?;
-            Ok(Item::Ellipse {
-                hidden: *hidden,
-                p,
-                s,
-                d: *d,
-            })
-        }
+        Item::Rect { hidden, p, s, r, d } => copy_rect(*hidden, p, s, r, *d),
+        Item::Ellipse { hidden, p, s, d } => copy_ellipse(*hidden, p, s, *d),
         Item::Star {
             hidden,
             sy,
@@ -191,36 +175,9 @@ fn copy_item(item: &Item) -> Result<Item, Memory>
             ir,
             is_,
             d,
-        } => {
-            let (pt, p, r) = copy_three(pt, p, r)?;
-            let (or_, os, ir, is_) = copy_four(or_, os, ir, is_)?;
-            Ok(Item::Star {
-                hidden: *hidden,
-                sy: *sy,
-                pt,
-                p,
-                r,
-                or_,
-                os,
-                ir,
-                is_,
-                d: *d,
-            })
-        }
-        Item::Path { hidden, ks, d } => Ok(Item::Path {
-            hidden: *hidden,
-            ks: ks.copy()?,
-            d: *d,
-        }),
-        Item::Fill { hidden, c, o, r } => {
-            let (c, o) = copy_two(c, o)?;
-            Ok(Item::Fill {
-                hidden: *hidden,
-                c,
-                o,
-                r: *r,
-            })
-        }
+        } => copy_star(*hidden, *sy, pt, p, r, or_, os, ir, is_, *d),
+        Item::Path { hidden, ks, d } => copy_path(*hidden, ks, *d),
+        Item::Fill { hidden, c, o, r } => copy_fill(*hidden, c, o, *r),
         Item::Stroke {
             hidden,
             c,
@@ -230,19 +187,7 @@ fn copy_item(item: &Item) -> Result<Item, Memory>
             lj,
             ml,
             d,
-        } => {
-            let (c, o, w, d) = copy_four(c, o, w, d)?;
-            Ok(Item::Stroke {
-                hidden: *hidden,
-                c,
-                o,
-                w,
-                lc: *lc,
-                lj: *lj,
-                ml: *ml,
-                d,
-            })
-        }
+        } => copy_stroke(*hidden, c, o, w, *lc, *lj, *ml, d),
         Item::GradientFill {
             hidden,
             o,
@@ -253,21 +198,7 @@ fn copy_item(item: &Item) -> Result<Item, Memory>
             h,
             a,
             r,
-        } => {
-            let (o, s, e) = copy_three(o, s, e)?;
-            let (g, h, a) = copy_three(g, h, a)?;
-            Ok(Item::GradientFill {
-                hidden: *hidden,
-                o,
-                s,
-                e,
-                t: *t,
-                g,
-                h,
-                a,
-                r: *r,
-            })
-        }
+        } => copy_gradient_fill(*hidden, o, s, e, *t, g, h, a, *r),
         Item::GradientStroke {
             hidden,
             o,
@@ -282,38 +213,191 @@ fn copy_item(item: &Item) -> Result<Item, Memory>
             lj,
             ml,
             d,
-        } => {
-            let (o, s, e, g) = copy_four(o, s, e, g)?;
-            let (h, a, w, d) = copy_four(h, a, w, d)?;
-            Ok(Item::GradientStroke {
-                hidden: *hidden,
-                o,
-                s,
-                e,
-                t: *t,
-                g,
-                h,
-                a,
-                w,
-                lc: *lc,
-                lj: *lj,
-                ml: *ml,
-                d,
-            })
-        }
-        Item::Trim { hidden, s, e, o, m } => {
-            let (s, e, o) = copy_three(s, e, o)?;
-            Ok(Item::Trim {
-                hidden: *hidden,
-                s,
-                e,
-                o,
-                m: *m,
-            })
-        }
-        Item::Place { hidden, ks } => Ok(Item::Place {
-            hidden: *hidden,
-            ks: ks.copy()?,
-        }),
+        } => copy_gradient_stroke(*hidden, o, s, e, *t, g, h, a, w, *lc, *lj, *ml, d),
+        Item::Trim { hidden, s, e, o, m } => copy_trim(*hidden, s, e, o, *m),
+        Item::Place { hidden, ks } => copy_place(*hidden, ks),
     }
+}
+
+// Copies of the other items, each by its members.
+
+fn copy_rect(
+    hidden: bool,
+    p: &Prop<Point>,
+    s: &Prop<Point>,
+    r: &Prop<Fx>,
+    d: Option<Fx>,
+) -> Result<Item, Memory>
+    ensures { IfOk result (λ made. made ≡ item.Rect hidden p.now s.now r.now d) }
+{
+    let (p, s, r) = copy_three(p, s, r)?;
+    Ok(Item::Rect { hidden, p, s, r, d })
+}
+
+fn copy_ellipse(
+    hidden: bool,
+    p: &Prop<Point>,
+    s: &Prop<Point>,
+    d: Option<Fx>,
+) -> Result<Item, Memory>
+    ensures { IfOk result (λ made. made ≡ item.Ellipse hidden p.now s.now d) }
+{
+    let (p, s) = copy_two(p, s)?;
+    Ok(Item::Ellipse { hidden, p, s, d })
+}
+
+fn copy_star(
+    hidden: bool,
+    sy: u8,
+    pt: &Prop<Fx>,
+    p: &Prop<Point>,
+    r: &Prop<Fx>,
+    or_: &Prop<Fx>,
+    os: &Prop<Fx>,
+    ir: &Prop<Fx>,
+    is_: &Prop<Fx>,
+    d: Option<Fx>,
+) -> Result<Item, Memory>
+    ensures { IfOk result
+        (λ made. made ≡ item.Star hidden sy pt.now p.now r.now or_.now os.now ir.now is_.now d) }
+{
+    let (pt, p, r) = copy_three(pt, p, r)?;
+    let (or_, os, ir, is_) = copy_four(or_, os, ir, is_)?;
+    Ok(Item::Star {
+        hidden,
+        sy,
+        pt,
+        p,
+        r,
+        or_,
+        os,
+        ir,
+        is_,
+        d,
+    })
+}
+
+fn copy_path(hidden: bool, ks: &Prop<Bezier>, d: Option<Fx>) -> Result<Item, Memory>
+    ensures { IfOk result (λ made. made ≡ item.Path hidden ks.now d) }
+{
+    Ok(Item::Path {
+        hidden,
+        ks: ks.copy()?,
+        d,
+    })
+}
+
+fn copy_fill(hidden: bool, c: &Prop<Color>, o: &Prop<Fx>, r: u8) -> Result<Item, Memory>
+    ensures { IfOk result (λ made. made ≡ item.Fill hidden c.now o.now r) }
+{
+    let (c, o) = copy_two(c, o)?;
+    Ok(Item::Fill { hidden, c, o, r })
+}
+
+fn copy_stroke(
+    hidden: bool,
+    c: &Prop<Color>,
+    o: &Prop<Fx>,
+    w: &Prop<Fx>,
+    lc: u8,
+    lj: u8,
+    ml: Fx,
+    d: &Seq<Dash>,
+) -> Result<Item, Memory>
+    ensures { IfOk result
+        (λ made. made ≡ item.Stroke hidden c.now o.now w.now lc lj ml d.now) }
+{
+    let (c, o, w, d) = copy_four(c, o, w, d)?;
+    Ok(Item::Stroke {
+        hidden,
+        c,
+        o,
+        w,
+        lc,
+        lj,
+        ml,
+        d,
+    })
+}
+
+fn copy_gradient_fill(
+    hidden: bool,
+    o: &Prop<Fx>,
+    s: &Prop<Point>,
+    e: &Prop<Point>,
+    t: u8,
+    g: &Stops,
+    h: &Prop<Fx>,
+    a: &Prop<Fx>,
+    r: u8,
+) -> Result<Item, Memory>
+    ensures { IfOk result
+        (λ made. made ≡ item.GradientFill hidden o.now s.now e.now t g.now h.now a.now r) }
+{
+    let (o, s, e) = copy_three(o, s, e)?;
+    let (g, h, a) = copy_three(g, h, a)?;
+    Ok(Item::GradientFill {
+        hidden,
+        o,
+        s,
+        e,
+        t,
+        g,
+        h,
+        a,
+        r,
+    })
+}
+
+fn copy_gradient_stroke(
+    hidden: bool,
+    o: &Prop<Fx>,
+    s: &Prop<Point>,
+    e: &Prop<Point>,
+    t: u8,
+    g: &Stops,
+    h: &Prop<Fx>,
+    a: &Prop<Fx>,
+    w: &Prop<Fx>,
+    lc: u8,
+    lj: u8,
+    ml: Fx,
+    d: &Seq<Dash>,
+) -> Result<Item, Memory>
+    ensures { IfOk result (λ made. made ≡ item.GradientStroke hidden
+        o.now s.now e.now t g.now h.now a.now w.now lc lj ml d.now) }
+{
+    let (o, s, e, g) = copy_four(o, s, e, g)?;
+    let (h, a, w, d) = copy_four(h, a, w, d)?;
+    Ok(Item::GradientStroke {
+        hidden,
+        o,
+        s,
+        e,
+        t,
+        g,
+        h,
+        a,
+        w,
+        lc,
+        lj,
+        ml,
+        d,
+    })
+}
+
+fn copy_trim(hidden: bool, s: &Prop<Fx>, e: &Prop<Fx>, o: &Prop<Fx>, m: u8) -> Result<Item, Memory>
+    ensures { IfOk result (λ made. made ≡ item.Trim hidden s.now e.now o.now m) }
+{
+    let (s, e, o) = copy_three(s, e, o)?;
+    Ok(Item::Trim { hidden, s, e, o, m })
+}
+
+fn copy_place(hidden: bool, ks: &Transform) -> Result<Item, Memory>
+    ensures { IfOk result (λ made. made ≡ item.Place hidden ks.now) }
+{
+    Ok(Item::Place {
+        hidden,
+        ks: ks.copy()?,
+    })
 }

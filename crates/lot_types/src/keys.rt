@@ -8,8 +8,8 @@ use crate::{Duplicate, Key, MAX_LIST_ITEMS, Memory, Seq};
 use std::alloc::Global;
 use std::marker::Model;
 
-/// The keyframes of a property: at least one and at most [`MAX_LIST_ITEMS`], and the time of each is at most the time of
-/// the next. Contracts see them as a list.
+/// The keyframes of a property: at least one and at most [`MAX_LIST_ITEMS`], and the time of each is at most the time
+/// of the next. Contracts see them as a list.
 ///
 /// Their order is that of the Lottie Specification 1.0, "Keyframes". That two of them may have one time is this
 /// project's own.
@@ -31,8 +31,8 @@ impl<T> Model for Keys<T> {
 }
 
 impl<T: Drop> Keys<T> {
-    /// The keyframes of a list. `None` exactly where it is empty or too long, or the time of a keyframe is below that of
-    /// the one before it.
+    /// The keyframes of a list. `None` exactly where it is empty or too long, or the time of a keyframe is below that
+    /// of the one before it.
     pub fn of(keys: Seq<Key<T>>) -> Option<Keys<T>>
         ensures some { IsSome result ↔ IsTimeline keys }
         ensures value { IfSome result (λ made. made ≡ keys) }
@@ -54,7 +54,8 @@ impl<T: Drop> Keys<T> {
     }
 
     /// Puts a keyframe at the end, whose time is at least that of the last one. There must be room for it below
-    /// [`MAX_LIST_ITEMS`]. Want of memory is the one refusal; the keyframes are then unchanged, and the new one is dropped.
+    /// [`MAX_LIST_ITEMS`]. Want of memory is the one refusal; the keyframes are then unchanged, and the new one is
+    /// dropped.
     pub fn push(&mut self, key: Key<T>) -> Result<(), Memory>
         requires room { length self.old < max_list_items }
         requires in_order { EndsBy self.old key.t }

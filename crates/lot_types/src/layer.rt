@@ -1,5 +1,6 @@
 //! Layers of compositions.
 
+use crate::duplicate::{copy_three, copy_two};
 use crate::{Duplicate, Fx, Item, Mask, Matte, Memory, Name, Prop, Rgb, Seq, Time, Transform};
 
 /// What a layer shows.
@@ -44,14 +45,17 @@ impl Duplicate for LayerKind {
                 st,
                 sr,
                 tm,
-            } => Ok(LayerKind::Precomp {
-                ref_id: ref_id.copy()?,
-                w: *w,
-                h: *h,
-                st: *st,
-                sr: *sr,
-                tm: tm.copy()?,
-            }),
+            } => {
+                let (ref_id, tm) = copy_two(ref_id, tm)?;
+                Ok(LayerKind::Precomp {
+                    ref_id,
+                    w: *w,
+                    h: *h,
+                    st: *st,
+                    sr: *sr,
+                    tm,
+                })
+            }
             LayerKind::Solid { w, h, rgb } => Ok(LayerKind::Solid {
                 w: *w,
                 h: *h,
@@ -87,8 +91,9 @@ pub struct Layer {
 
 impl Duplicate for Layer {
     fn copy(&self) -> Result<Layer, Memory> {
+        let (kind, ks, masks) = copy_three(&self.kind, &self.ks, &self.masks)?;
         Ok(Layer {
-            kind: self.kind.copy()?,
+            kind,
             ip: self.ip,
             op: self.op,
             hidden: self.hidden,
@@ -97,8 +102,8 @@ impl Duplicate for Layer {
             parent: self.parent,
             matte: self.matte,
             tp: self.tp,
-            ks: self.ks.copy()?,
-            masks: self.masks.copy()?,
+            ks,
+            masks,
         })
     }
 }

@@ -6,7 +6,7 @@ use crate::{Duplicate, Memory};
 use std::alloc::Global;
 use std::marker::Model;
 
-/// How many bytes a full text asks for where a character is put at its end: the allocator gives no fewer.
+/// How many bytes a full text reserves where a character is put at its end.
 const MIN_GROWTH_BYTES: usize = 24;
 
 /// A text in UTF-8 that keeps its allocator. Contracts see it as the list of its bytes.

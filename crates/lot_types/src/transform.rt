@@ -1,5 +1,6 @@
 //! Transforms of layers and groups.
 
+use crate::duplicate::{copy_four, copy_three};
 use crate::{Duplicate, Fx, Memory, Point, Position, Prop};
 
 /// How a layer or a group lies in what contains it: moved by minus the anchor point, scaled, skewed, turned, and moved
@@ -26,14 +27,16 @@ pub struct Transform {
 
 impl Duplicate for Transform {
     fn copy(&self) -> Result<Transform, Memory> {
+        let (a, p, s, r) = copy_four(&self.a, &self.p, &self.s, &self.r)?;
+        let (o, sk, sa) = copy_three(&self.o, &self.sk, &self.sa)?;
         Ok(Transform {
-            a: self.a.copy()?,
-            p: self.p.copy()?,
-            s: self.s.copy()?,
-            r: self.r.copy()?,
-            o: self.o.copy()?,
-            sk: self.sk.copy()?,
-            sa: self.sa.copy()?,
+            a,
+            p,
+            s,
+            r,
+            o,
+            sk,
+            sa,
         })
     }
 }

@@ -15,8 +15,8 @@ impl Machine {
     ghost use Rattle.lot_json.specs.Pending.{with_name, state_in, stack_of, state_of};
     ghost use Rattle.lot_json.specs.Residual.{Advances, ReadsByte};
 
-    /// Reads the beginning of a name of the innermost object, whatever was read last: to its closing quotation mark if it
-    /// has no escape and ends here, and its opening quotation mark alone otherwise. Gives the number of bytes.
+    /// Reads the beginning of a name of the innermost object, whatever was read last: to its closing quotation mark
+    /// if it has no escape and ends here, and its opening quotation mark alone otherwise. Gives the number of bytes.
     pub(crate) fn begin_name(&mut self, bytes: &[u8]) -> Result<usize, Memory>
         requires some { 0 < length bytes.now }
         requires quote { slice_index bytes.now 0 ≡ quote }

@@ -17,8 +17,8 @@ impl Machine {
     ghost use Rattle.lot_json.specs.Pending.{stack_of, state_of};
     ghost use Rattle.lot_json.specs.Residual.{Advances, PlacesValue};
 
-    /// Reads the beginning of a string: to its closing quotation mark if it has no escape and ends here, and its opening
-    /// quotation mark alone otherwise. Gives the number of bytes.
+    /// Reads the beginning of a string: to its closing quotation mark if it has no escape and ends here, and its
+    /// opening quotation mark alone otherwise. Gives the number of bytes.
     pub(crate) fn begin_string(&mut self, bytes: &[u8]) -> Result<usize, Memory>
         requires mode { self.old.mode ≡ Mode.Value }
         requires some { 0 < length bytes.now }

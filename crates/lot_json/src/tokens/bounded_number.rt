@@ -84,8 +84,8 @@ impl BoundedNumber {
         Ok(at)
     }
 
-    /// Takes one byte more. False where it does not belong to the number, which then is unchanged. A number of more than
-    /// 2^62 bytes needs more memory than there is.
+    /// Takes one byte more. False where it does not belong to the number, which then is unchanged. A number of more
+    /// than 2^62 bytes needs more memory than there is.
     #[inline(always)]
     pub(crate) fn take(&mut self, c: u8) -> Result<bool, Memory>
         ensures continues { IfOk result (λ belongs. OnTrue belongs ((t : List ℕ) (m : Number)

@@ -57,8 +57,8 @@ impl HighSurrogate {
         }
     }
 
-    /// The code unit after a high surrogate whose digits up to this place have the value. `None` where they are not those
-    /// of a low surrogate.
+    /// The code unit after a high surrogate whose digits up to this place have the value. `None` where they are not
+    /// those of a low surrogate.
     fn with_low_digits(self, place: DigitPlace, value: u16) -> Option<Taken>
         requires { value < 16 * values_before place }
         ensures { LeadsTo (λ (t x : List ℕ). LowRest self.unit (digits_after place) value

@@ -6,12 +6,12 @@ ghost use Rattle.lot_json.specs.NumberToken.{IsNumberToken, IsDigit, number_of, 
 use crate::Number;
 use lot_types::Fx;
 
-/// A number token of which some bytes were read, in bounded space: its first fifteen digits from the first that is not 0,
-/// and where the point is among them.
+/// A number token of which some bytes were read, in bounded space: its first fifteen digits from the first that is
+/// not 0, and where the point is among them.
 ///
 /// The number of the digits that were read is `lead * 10^(dropped - places)`, without those that were dropped. Fifteen
-/// digits are enough: where one more was dropped, either the number is out of range, or its first digit below a millionth
-/// is among those fifteen.
+/// digits are enough: where one more was dropped, either the number is out of range, or its first digit below a
+/// millionth is among those fifteen.
 #[derive(Clone, Copy)]
 pub(crate) struct NumberToken {
     minus: bool,
@@ -70,8 +70,8 @@ impl NumberToken {
         }
     }
 
-    /// Begins anew with this byte. False where no number token begins with it. The token is changed in place, since a copy
-    /// of it costs more than a digit.
+    /// Begins anew with this byte. False where no number token begins with it. The token is changed in place, since a
+    /// copy of it costs more than a digit.
     #[inline(always)]
     pub(crate) fn begin(&mut self, c: u8) -> bool
         ensures begins { OnTrue result ((t : List ℕ) (m : Number)

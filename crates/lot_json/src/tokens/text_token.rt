@@ -30,8 +30,8 @@ impl TextToken {
         }
     }
 
-    /// Takes the bytes before the closing quotation mark, or all of them where it is not among them. After a rejection, or
-    /// for want of memory, the token may only be dropped.
+    /// Takes the bytes before the closing quotation mark, or all of them where it is not among them. After a
+    /// rejection, or for want of memory, the token may only be dropped.
     pub(crate) fn take_prefix(&mut self, bytes: &[u8]) -> Result<Progress, Memory>
         ensures { IfOk result (λ p. TakesPrefix bytes.now p self.old self.new) }
     {
@@ -51,8 +51,8 @@ impl TextToken {
         Ok(Progress::Continues(at))
     }
 
-    /// Takes the unescaped characters that the bytes begin with, and gives the number of their bytes: 0 within a character.
-    /// For want of memory the token may only be dropped.
+    /// Takes the unescaped characters that the bytes begin with, and gives the number of their bytes: 0 within a
+    /// character. For want of memory the token may only be dropped.
     fn take_unescaped(&mut self, bytes: &[u8]) -> Result<usize, Memory>
         ensures within { IfOk result (λ n. n ≤ length bytes.now) }
         ensures takes { IfOk result (λ n. TakesRun (take n bytes.now) self.old self.new) }

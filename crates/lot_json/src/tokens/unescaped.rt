@@ -5,8 +5,8 @@ ghost use Rattle.std.specs.Str.{IsUtf8};
 ghost use Rattle.lot_json.specs.Bytes.{quote};
 ghost use Rattle.lot_json.specs.Unescaped.{IsUnescapedByte, AreUnescapedBytes};
 
-/// The string whose characters and closing quotation mark the bytes begin with. `None` where it has an escape, and where
-/// it does not end in these bytes.
+/// The string whose characters and closing quotation mark the bytes begin with. `None` where it has an escape, and
+/// where it does not end in these bytes.
 pub(crate) fn string_without_escapes(bytes: &[u8]) -> Option<&str>
     ensures spelled { IfSome result (λ s. (rest : List ℕ) × (bytes.now ≡ s.now ++ quote ∷ rest)) }
     ensures unescaped { IfSome result (λ s. AreUnescapedBytes s.now) }

@@ -7,8 +7,8 @@ use lot_types::Failed;
 
 /// Contents of bytes, by name.
 ///
-/// A folder counts its faults and the bytes that it gave. It says which names it serves. What a name contains is known of
-/// a folder in memory, and not of the files of a machine; clauses about content speak of what is known.
+/// A folder counts its faults and the bytes that it gave. It says which names it serves. What a name contains is
+/// known of a folder in memory, and not of the files of a machine; clauses about content speak of what is known.
 pub trait Folder {
     /// What the folder contains and counts. The counts never fall, and stay at the last value of 64 bits.
     ghost state: { Self → FolderState };
@@ -18,8 +18,9 @@ pub trait Folder {
 
     /// Reads bytes of the named content, from the place `from` on, into the first bytes of `buf`, and answers how many.
     ///
-    /// It answers 0 only at the end of the content, or for an empty buffer. The name has to be served; one that is served
-    /// and not there is a fault, as is a read that fails. Accepted or refused, a read leaves the contents as they are.
+    /// It answers 0 only at the end of the content, or for an empty buffer. The name has to be served; one that is
+    /// served and not there is a fault, as is a read that fails. Accepted or refused, a read leaves the contents as
+    /// they are.
     fn read(&mut self, name: &str, from: u64, buf: &mut [u8]) -> Result<usize, Failed>
         requires { serves self.old name.now }
         ensures within { IfOk result (λ n. n ≤ length buf.old) }

@@ -11,8 +11,8 @@ use std::rt::Files;
 /// The files of this machine by their paths, and standard input by the name `-`.
 ///
 /// A file stays open for the read that goes on where the last one ended; a read of another name, or at another place,
-/// opens its file anew and skips to the place. Standard input can only be read in sequence: a read at another place than
-/// where the last one ended is a fault.
+/// opens its file anew and skips to the place. Standard input can only be read in sequence: a read at another place
+/// than where the last one ended is a fault.
 ///
 /// What a file contains is not known to contracts. Want of memory within the folder is a fault of it.
 #[derive(Drop)]
@@ -134,8 +134,8 @@ fn open_at<R: Files + AllocGlobal>(
     Ok(OpenFile { name, place, file })
 }
 
-/// Reads the next bytes of a file that was opened, and returns it with its new place. A file that could not be opened is a
-/// fault, and no empty file; one whose read failed is closed.
+/// Reads the next bytes of a file that was opened, and returns it with its new place. A file that could not be opened
+/// is a fault, and no empty file; one whose read failed is closed.
 fn read_next<T: Read + Drop>(
     opened: Result<OpenFile<T>, Failed>,
     buf: &mut [u8],

@@ -16,8 +16,8 @@ pub trait Sink {
 
     /// Gains the first bytes of `bytes`, and answers how many: none only where `bytes` is empty.
     ///
-    /// A sink that can take none of them answers [`SinkRefusal::Failed`], or [`SinkRefusal::Memory`] for want of memory. A
-    /// refused write took nothing.
+    /// A sink that can take none of them answers [`SinkRefusal::Failed`], or [`SinkRefusal::Memory`] for want of
+    /// memory. A refused write took nothing.
     fn write(&mut self, bytes: &[u8]) -> Result<usize, SinkRefusal>
         ensures within { IfOk result (λ n. n ≤ length bytes.now) }
         ensures some { IfOk result (λ n. n ≡ 0 → bytes.now ≡ []) }

@@ -19,8 +19,8 @@ ellipse_contours-requires-clause-center g c =
 pub ellipse_contours-requires-clause-size : goal.ellipse_contours-requires-clause-size
 ellipse_contours-requires-clause-size g c = (values-Ellipse c.args.d.now _ _ _ _ _ c.in-Ellipse.is c.requires.values).1
 
-pub bezier-requires : goal.bezier-requires
-bezier-requires g c = values-Path c.args.d.now _ _ _ _ c.in-Path.is c.requires.values
+pub bezier_contours-requires : goal.bezier_contours-requires
+bezier_contours-requires g c = values-Path c.args.d.now _ _ _ _ c.in-Path.is c.requires.values
 
 pub polystar_contours-requires-clause-points : goal.polystar_contours-requires-clause-points
 polystar_contours-requires-clause-points g c =

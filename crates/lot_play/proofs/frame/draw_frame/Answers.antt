@@ -1,5 +1,5 @@
 use Rattle.std.proofs.Common.{◌≡◌, ◌+◌, ◌≤◌, length, ℕ, List, Some, sym, ap, ◌∙◌, rules}
-use Rattle.lot_comp.specs.Frame.{frame, main_comp, evaluated, piece_at}
+use Rattle.lot_comp.specs.Frame.{frame, main_comp, evaluated_frame, piece_at}
 use Rattle.lot_play.specs.Evaluations.{layers_shown}
 use Rattle.lot_play.specs.Picture.{svg_of}
 use Rattle.lot_play.specs.Walk.{after_frame}
@@ -14,7 +14,7 @@ unfolding svg_of
 returns-clause-svg g c =
     let d = c.args.d.now in
     let written : after_frame d (frame d (main_comp d) c.args.t) (begin d.w d.h unwritten) ≡ Some c.write_layers.new.w = search rules in
-    let svg = gives_text d (evaluated (piece_at d) (frame d (main_comp d) c.args.t)) c.write_layers.new.w written in
+    let svg = gives_text d (evaluated_frame (piece_at d) (frame d (main_comp d) c.args.t)) c.write_layers.new.w written in
     if_ok c.end.result (λ b. b ≡ finish c.write_layers.new.w) (λ b. svg_of d c.args.t ≡ Some b)
     (λ b is. svg ∙ ap (λ (z : List ℕ). Some z) (sym is)) c.end.ensures
 
