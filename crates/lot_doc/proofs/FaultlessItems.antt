@@ -19,7 +19,7 @@ use Rattle.lot_read.proofs.SoundTransform.{scalar_or_sound, transform_rows_sound
 use Rattle.lot_read.proofs.SoundValues.{number_sound, flag_sound, whole_sound, scalar_sound, vector_sound, color_sound, bezier_sound, gradient_sound}
 use Rattle.lot_doc.specs.declared.item_type.ItemType.{ItemType}
 use Rattle.lot_doc.specs.declared.item_type.ItemType.TheVariants as type
-use Rattle.lot_doc.specs.Gradient.{max_stops, colors_rows, stops_rows, needed_stops, base_gradient_rows, gradient_fill_rows, gradient_stroke_rows}
+use Rattle.lot_doc.specs.Gradient.{max_stops, colors_rows, stops_rows, needed_stops, geometry_rows, focus_rows, base_gradient_rows, gradient_fill_rows, gradient_stroke_rows}
 use Rattle.lot_doc.specs.Item.{transform_item_rows, group_rows, typed_rows, item_rows, item_within, shape_item}
 use Rattle.lot_doc.specs.ItemHead.{type_named, item_type_or_fault, item_type, head_rows}
 use Rattle.lot_doc.specs.Shape.{rectangle_rows, ellipse_rows, spokes_rows, inner_radius, radii_rows, star_kind, polystar_rows, path_rows}
@@ -172,17 +172,29 @@ needed_stops_sound : (names : Names) → RowsAreSound (needed_stops names)
 unfolding needed_stops
 needed_stops_sound names at m = needed_sound (codes "g") (object_sound (stops_sound names)) at m
 
+geometry_sound : (names : Names) → RowsAreSound (geometry_rows names)
+unfolding geometry_rows
+geometry_sound names at m =
+    row_sound (row_sound (row_sound (good_sound _)
+    (needed_property_sound kind.Vector vector_sound names (codes "s") at m))
+    (needed_property_sound kind.Vector vector_sound names (codes "e") at m))
+    (optional_sound (codes "t") 1 (whole_sound 1 2) at m)
+
+focus_sound : (names : Names) → RowsAreSound (focus_rows names)
+unfolding focus_rows
+focus_sound names at m =
+    row_sound (row_sound (good_sound _)
+    (scalar_or_sound (pos 0) names (codes "h") at m))
+    (scalar_or_sound (pos 0) names (codes "a") at m)
+
 base_gradient_sound : (names : Names) → RowsAreSound (base_gradient_rows names)
 unfolding base_gradient_rows
 base_gradient_sound names at m =
-    row_sound (row_sound (row_sound (row_sound (row_sound (row_sound (row_sound (good_sound _)
+    row_sound (row_sound (row_sound (row_sound (good_sound _)
     (scalar_or_sound hundred_per_cent names (codes "o") at m))
-    (needed_property_sound kind.Vector vector_sound names (codes "s") at m))
-    (needed_property_sound kind.Vector vector_sound names (codes "e") at m))
-    (optional_sound (codes "t") 1 (whole_sound 1 2) at m))
+    (geometry_sound names at m))
     (needed_stops_sound names at m))
-    (scalar_or_sound (pos 0) names (codes "h") at m))
-    (scalar_or_sound (pos 0) names (codes "a") at m)
+    (focus_sound names at m)
 
 gradient_fill_sound : (names : Names) → RowsAreSound (gradient_fill_rows names)
 unfolding gradient_fill_rows

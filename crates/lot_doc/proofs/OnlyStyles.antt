@@ -19,8 +19,10 @@ use Rattle.lot_read.specs.Rows.{needed, optional, object}
 use Rattle.lot_read.specs.Transform.{hundred_per_cent}
 use Rattle.lot_read.specs.Whole.{whole}
 use Rattle.lot_doc.specs.declared.gradient.BaseGradient.{BaseGradient}
+use Rattle.lot_doc.specs.declared.gradient.Focus.{Focus}
+use Rattle.lot_doc.specs.declared.gradient.Geometry.{Geometry}
 use Rattle.lot_doc.specs.declared.stroke.Line.{Line}
-use Rattle.lot_doc.specs.Gradient.{max_stops, colors_rows, stops_rows, needed_stops, base_gradient_rows, gradient_fill_rows, gradient_stroke_rows}
+use Rattle.lot_doc.specs.Gradient.{max_stops, colors_rows, stops_rows, needed_stops, geometry_rows, focus_rows, base_gradient_rows, gradient_fill_rows, gradient_stroke_rows}
 use Rattle.lot_doc.specs.ItemHead.{head_rows}
 use Rattle.lot_doc.specs.Style.{fill_rule, fill_rows, dash_kind, dash_rows, default_miter, line_rows, stroke_rows}
 use Rattle.lot_doc.proofs.GoodItems.{IsGood, single, EverColor, EverGradient, scalar_needed, vector_needed, color_needed, gradient_needed}
@@ -108,17 +110,36 @@ needed_stops_only at m = needed_only (codes "g") (object_only stops_only) at m
 abbrev EverBase : BaseGradient → Type 0
 EverBase b = EverScalar b.o × EverVector b.s × EverVector b.e × EverStops b.g × EverScalar b.h × EverScalar b.a
 
+abbrev EverGeometry : Geometry → Type 0
+EverGeometry geometry = EverVector geometry.s × EverVector geometry.e
+
+geometry_only : RowsGiveOnly EverGeometry (geometry_rows [])
+unfolding geometry_rows
+geometry_only at m =
+    any_row_only (optional (codes "t") (whole 1 2) 1 at m)
+    (row_only (vector_needed (codes "e") at m)
+    (row_only (vector_needed (codes "s") at m)
+    (good_only _ (λ s ever_s e ever_e t. (ever_s, ever_e)))))
+
+abbrev EverFocus : Focus → Type 0
+EverFocus focus = EverScalar focus.h × EverScalar focus.a
+
+focus_only : RowsGiveOnly EverFocus (focus_rows [])
+unfolding focus_rows
+focus_only at m =
+    row_only (scalar_or_only (pos 0) (codes "a") at m)
+    (row_only (scalar_or_only (pos 0) (codes "h") at m)
+    (good_only _ (λ h ever_h a ever_a. (ever_h, ever_a))))
+
 base_gradient_only : RowsGiveOnly EverBase (base_gradient_rows [])
 unfolding base_gradient_rows
 base_gradient_only at m =
-    row_only (scalar_or_only (pos 0) (codes "a") at m)
-    (row_only (scalar_or_only (pos 0) (codes "h") at m)
+    row_only (focus_only at m)
     (row_only (needed_stops_only at m)
-    (any_row_only (optional (codes "t") (whole 1 2) 1 at m)
-    (row_only (vector_needed (codes "e") at m)
-    (row_only (vector_needed (codes "s") at m)
+    (row_only (geometry_only at m)
     (row_only (scalar_or_only hundred_per_cent (codes "o") at m)
-    (good_only _ (λ o ever_o s ever_s e ever_e t g ever_g h ever_h a ever_a. (ever_o, ever_s, ever_e, ever_g, ever_h, ever_a)))))))))
+    (good_only _ (λ o ever_o geometry ends g ever_g focus ever_focus.
+    (ever_o, ends.0, ends.1, ever_g, ever_focus.0, ever_focus.1))))))
 
 abbrev gradient_fill : Bool → BaseGradient → ℕ → Item
 gradient_fill hidden b r = made.GradientFill hidden b.o b.s b.e b.t b.g b.h b.a r

@@ -15,6 +15,8 @@ use Rattle.lot_read.specs.Transform.{scalar_or, hundred_per_cent}
 use Rattle.lot_read.specs.Vector.{vector}
 use Rattle.lot_read.specs.Whole.{whole}
 use Rattle.lot_doc.specs.declared.gradient.BaseGradient.{BaseGradient}
+use Rattle.lot_doc.specs.declared.gradient.Focus.{Focus}
+use Rattle.lot_doc.specs.declared.gradient.Geometry.{Geometry}
 use Rattle.lot_doc.specs.ItemHead.{head_rows}
 use Rattle.lot_doc.specs.Style.{fill_rule, line_rows}
 
@@ -35,17 +37,30 @@ stops_rows names at m = needed (codes "p") (whole 1 max_stops) at m then λ p. c
 unfoldable pub needed_stops : Names → Row Stops
 needed_stops names at m = needed (codes "g") (object (stops_rows names)) at m
 
--- The members that all gradients have.
-unfoldable pub base_gradient_rows : Names → Row BaseGradient
-base_gradient_rows names at m =
-    good (λ o s e t g h a. record { o = o; s = s; e = e; t = t; g = g; h = h; a = a })
-    ⊛ scalar_or hundred_per_cent names (codes "o") at m
+-- The points between which a gradient lies, and its kind: 1 linear, 2 radial.
+unfoldable pub geometry_rows : Names → Row Geometry
+geometry_rows names at m =
+    good (λ s e t. record { s = s; e = e; t = t })
     ⊛ needed_property kind.Vector vector names (codes "s") at m
     ⊛ needed_property kind.Vector vector names (codes "e") at m
     ⊛ optional (codes "t") (whole 1 2) 1 at m
-    ⊛ needed_stops names at m
+
+-- The distance of the focus of a radial gradient, and its angle.
+unfoldable pub focus_rows : Names → Row Focus
+focus_rows names at m =
+    good (λ h a. record { h = h; a = a })
     ⊛ scalar_or (pos 0) names (codes "h") at m
     ⊛ scalar_or (pos 0) names (codes "a") at m
+
+-- The members that all gradients have.
+unfoldable pub base_gradient_rows : Names → Row BaseGradient
+base_gradient_rows names at m =
+    good (λ o geometry g focus.
+    record { o = o; s = geometry.s; e = geometry.e; t = geometry.t; g = g; h = focus.h; a = focus.a })
+    ⊛ scalar_or hundred_per_cent names (codes "o") at m
+    ⊛ geometry_rows names at m
+    ⊛ needed_stops names at m
+    ⊛ focus_rows names at m
 
 unfoldable pub gradient_fill_rows : Names → Row Item
 gradient_fill_rows names at m =

@@ -2,7 +2,7 @@
 ghost use Rattle.std.specs.Prelude.{◌<◌};
 ghost use Rattle.lot_read.specs.Members.{RowGives, SameMembers};
 ghost use Rattle.lot_read.specs.SlotNames.{names_in};
-ghost use Rattle.lot_doc.specs.Gradient.{colors_rows, stops_rows, needed_stops, base_gradient_rows, gradient_fill_rows, gradient_stroke_rows};
+ghost use Rattle.lot_doc.specs.Gradient.{colors_rows, stops_rows, needed_stops, geometry_rows, focus_rows, base_gradient_rows, gradient_fill_rows, gradient_stroke_rows};
 
 use crate::fill::read_fill_rule;
 use crate::item_head::read_head;
@@ -25,6 +25,21 @@ const STOP_COUNT: Whole = Whole {
     low: 1,
     high: MAX_STOPS,
 };
+
+/// The points between which a gradient lies, and its kind.
+#[derive(Drop)]
+pub(crate) struct Geometry {
+    s: Prop<Point>,
+    e: Prop<Point>,
+    t: u8,
+}
+
+/// The distance of the focus of a radial gradient, and its angle.
+#[derive(Drop)]
+pub(crate) struct Focus {
+    h: Prop<Fx>,
+    a: Prop<Fx>,
+}
 
 /// The members that all gradients have.
 #[derive(Drop)]
@@ -101,21 +116,42 @@ fn read_base_gradient(names: &SlotNames, members: &mut Members) -> Result<BaseGr
     ensures same { SameMembers members.old members.new }
 {
     let o = scalar_or(hundred_per_cent(), names, "o", members)?;
+    let geometry = read_geometry(names, members)?;
+    let g = read_stops(names, members)?;
+    let focus = read_focus(names, members)?;
+    Ok(BaseGradient {
+        o,
+        s: geometry.s,
+        e: geometry.e,
+        t: geometry.t,
+        g,
+        h: focus.h,
+        a: focus.a,
+    })
+}
+
+/// Reads the points between which a gradient lies, and its kind.
+#[tactic(auto, using(lot_read::proofs::Faults::first_of_prefix), unfolding(crate::specs::Gradient::geometry_rows))]
+fn read_geometry(names: &SlotNames, members: &mut Members) -> Result<Geometry, Refusal>
+    ensures gives { RowGives result members.old members.new
+        (geometry_rows (names_in names.now)) }
+    ensures same { SameMembers members.old members.new }
+{
     let s = needed_property(VectorValue, names, "s", members)?;
     let e = needed_property(VectorValue, names, "e", members)?;
     let t = members.optional("t", &KIND, LINEAR)?;
-    let g = read_stops(names, members)?;
+    Ok(Geometry { s, e, t })
+}
+
+/// Reads the focus of a radial gradient.
+#[tactic(auto, using(lot_read::proofs::Faults::first_of_prefix), unfolding(crate::specs::Gradient::focus_rows))]
+fn read_focus(names: &SlotNames, members: &mut Members) -> Result<Focus, Refusal>
+    ensures gives { RowGives result members.old members.new (focus_rows (names_in names.now)) }
+    ensures same { SameMembers members.old members.new }
+{
     let h = scalar_or(Fx::ZERO, names, "h", members)?;
     let a = scalar_or(Fx::ZERO, names, "a", members)?;
-    Ok(BaseGradient {
-        o,
-        s,
-        e,
-        t,
-        g,
-        h,
-        a,
-    })
+    Ok(Focus { h, a })
 }
 
 /// Reads the stops `g` of a gradient.
