@@ -20,9 +20,7 @@ use Rattle.lot_types.specs.declared.piece.Piece.{Piece}
 use Rattle.lot_types.specs.declared.point.Point.{Point}
 use Rattle.lot_types.specs.declared.rgb.Rgb.{Rgb}
 use Rattle.lot_types.specs.declared.seg.Seg.{Seg}
-
-abbrev pub corner : ℤ → ℤ → Point
-corner x y = record { x = x; y = y }
+use Rattle.lot_types.specs.Points.{point}
 
 abbrev pub side : Point → Point → Seg
 side from to = record { c1 = from; c2 = to; end = to }
@@ -30,7 +28,7 @@ side from to = record { c1 = from; c2 = to; end = to }
 -- The closed contour (0, 0), (w, 0), (w, h), (0, h).
 abbrev pub solid_contour : ℤ → ℤ → Contour
 solid_contour w h =
-    let a = corner (pos 0) (pos 0) in let b = corner w (pos 0) in let c = corner w h in let d = corner (pos 0) h in
+    let a = point (pos 0) (pos 0) in let b = point w (pos 0) in let c = point w h in let d = point (pos 0) h in
     record { closed = true; start = a; segs = side a b ∷ side b c ∷ side c d ∷ side d a ∷ [] }
 
 -- A rectangle that is filled with a color.

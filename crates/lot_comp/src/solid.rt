@@ -1,6 +1,7 @@
 //! The paint of solid layers.
 ghost use Rattle.std.specs.Prelude.{◌≡◌, IfOk};
-ghost use Rattle.lot_comp.specs.Piece.{corner as corner_in, side as side_in, solid_contour as contour_in, solid_paint as paint_in};
+ghost use Rattle.lot_types.specs.Points.{point};
+ghost use Rattle.lot_comp.specs.Piece.{side as side_in, solid_contour as contour_in, solid_paint as paint_in};
 
 use lot_types::{Brush, Contour, Fx, Ink, Matrix, Memory, Paint, Point, Rgb, Seg, Seq};
 use std::alloc::Global;
@@ -40,7 +41,7 @@ fn rectangle(alloc: Global, w: Fx, h: Fx) -> Result<Contour, Memory>
 
 /// A straight curve from (`x0`, `y0`) to (`x1`, `y1`).
 fn line(x0: Fx, y0: Fx, x1: Fx, y1: Fx) -> Seg
-    ensures { result ≡ side_in (corner_in x0 y0) (corner_in x1 y1) }
+    ensures { result ≡ side_in (point x0 y0) (point x1 y1) }
 {
     Seg {
         c1: corner(x0, y0),
@@ -50,7 +51,7 @@ fn line(x0: Fx, y0: Fx, x1: Fx, y1: Fx) -> Seg
 }
 
 fn corner(x: Fx, y: Fx) -> Point
-    ensures { result ≡ corner_in x y }
+    ensures { result ≡ point x y }
 {
     Point { x, y }
 }

@@ -23,7 +23,7 @@ use Rattle.lot_doc.specs.Gradient.{max_stops, colors_rows, stops_rows, needed_st
 use Rattle.lot_doc.specs.Item.{transform_item_rows, group_rows, typed_rows, item_rows, item_within, shape_item}
 use Rattle.lot_doc.specs.ItemHead.{type_named, item_type_or_fault, item_type, head_rows}
 use Rattle.lot_doc.specs.Shape.{rectangle_rows, ellipse_rows, spokes_rows, inner_radius, radii_rows, star_kind, polystar_rows, path_rows}
-use Rattle.lot_doc.specs.Style.{fill_rule, fill_rows, dash_kind_named, dash_kind_or_fault, dash_kind, dash_rows, default_miter, line_rows, stroke_rows}
+use Rattle.lot_doc.specs.Style.{fill_rule, fill_rows, dash_kind_named, dash_kind_or_fault, dash_kind, dash_rows, default_miter, cap_and_join_rows, line_rows, stroke_rows}
 use Rattle.lot_doc.specs.Trim.{trim_rows}
 use Rattle.lot_doc.proofs.FaultlessFeatures.{normal_blend_sound}
 
@@ -138,14 +138,20 @@ dash_sound names at m =
     (needed_sound (codes "n") dash_kind_sound at m))
     (needed_property_sound kind.Scalar scalar_sound names (codes "v") at m)
 
+cap_and_join_sound : RowsAreSound cap_and_join_rows
+unfolding cap_and_join_rows
+cap_and_join_sound at m =
+    row_sound (row_sound (row_sound (good_sound _)
+    (optional_sound (codes "lc") 2 (whole_sound 1 3) at m))
+    (optional_sound (codes "lj") 2 (whole_sound 1 3) at m))
+    (optional_sound (codes "ml") default_miter (number_sound any) at m)
+
 line_sound : (names : Names) → RowsAreSound (line_rows names)
 unfolding line_rows
 line_sound names at m =
-    row_sound (row_sound (row_sound (row_sound (row_sound (good_sound _)
+    row_sound (row_sound (row_sound (good_sound _)
     (needed_property_sound kind.Scalar scalar_sound names (codes "w") at m))
-    (optional_sound (codes "lc") 2 (whole_sound 1 3) at m))
-    (optional_sound (codes "lj") 2 (whole_sound 1 3) at m))
-    (optional_sound (codes "ml") default_miter (number_sound any) at m))
+    (cap_and_join_sound at m))
     (optional_sound (codes "d") [] (list_sound max_list_items (object_sound (dash_sound names))) at m)
 
 stroke_sound : (names : Names) → RowsAreSound (stroke_rows names)

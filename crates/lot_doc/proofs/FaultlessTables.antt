@@ -22,8 +22,8 @@ use Rattle.lot_doc.specs.declared.layer_type.LayerType.{LayerType}
 use Rattle.lot_doc.specs.declared.layer_type.LayerType.TheVariants.{Solid, Null, Shape}
 use Rattle.lot_doc.specs.declared.running_time.RunningTime.{RunningTime}
 use Rattle.lot_doc.specs.Color.{good_or_value, color_of, hex_color}
-use Rattle.lot_doc.specs.Layer.{layer_type_or_fault, layer_type, header_rows, solid_rows, shape_rows, type_rows, kind_rows, content_rows, layer_rows, typed_layer_rows}
-use Rattle.lot_doc.specs.Root.{max_assets, in_order, running_time_rows, root_rows, document}
+use Rattle.lot_doc.specs.Layer.{layer_type_or_fault, layer_type, link_rows, matte_rows, header_rows, solid_rows, shape_rows, type_rows, kind_rows, content_rows, layer_rows, typed_layer_rows}
+use Rattle.lot_doc.specs.Root.{max_assets, in_order, running_time_rows, size_rows, resource_rows, root_rows, document}
 use Rattle.lot_doc.proofs.FaultlessFeatures.{left_out_sound, asset_sound}
 use Rattle.lot_doc.proofs.FaultlessItems.{item_sound}
 
@@ -51,19 +51,31 @@ layer_type_sound : ReadsSoundly layer_type
 unfolding layer_type
 layer_type_sound at j = then_sound _ (number_sound any at j) (type_or_fault_sound at)
 
-header_sound : RowsAreSound header_rows
-unfolding header_rows
-header_sound at m =
-    also_sound (also_sound (also_sound (row_sound (row_sound (row_sound (row_sound (row_sound (also_sound (good_sound _)
-    (left_out_sound at m))
-    (optional_sound (codes "hd") false flag_sound at m))
+links_sound : RowsAreSound link_rows
+unfolding link_rows
+links_sound at m =
+    row_sound (row_sound (good_sound _)
     (maybe_sound (codes "ind") (number_sound any) at m))
-    (maybe_sound (codes "parent") (number_sound any) at m))
-    (needed_sound (codes "ip") (number_sound any) at m))
-    (needed_sound (codes "op") (number_sound any) at m))
+    (maybe_sound (codes "parent") (number_sound any) at m)
+
+mattes_sound : RowsAreSound matte_rows
+unfolding matte_rows
+mattes_sound at m =
+    also_sound (also_sound (also_sound (good_sound tt)
     (unbuilt_sound (codes "td") at m))
     (unbuilt_sound (codes "tt") at m))
     (unbuilt_sound (codes "tp") at m)
+
+header_sound : RowsAreSound header_rows
+unfolding header_rows
+header_sound at m =
+    also_sound (row_sound (row_sound (row_sound (row_sound (also_sound (good_sound _)
+    (left_out_sound at m))
+    (optional_sound (codes "hd") false flag_sound at m))
+    (links_sound at m))
+    (needed_sound (codes "ip") (number_sound any) at m))
+    (needed_sound (codes "op") (number_sound any) at m))
+    (mattes_sound at m)
 
 solid_sound : RowsAreSound solid_rows
 unfolding solid_rows
@@ -116,16 +128,28 @@ running_time_sound at m =
     (needed_sound (codes "op") (number_sound any) at m))
     (in_order_sound at)
 
+size_sound : RowsAreSound size_rows
+unfolding size_rows
+size_sound at m =
+    row_sound (row_sound (good_sound _)
+    (needed_sound (codes "w") (number_sound not_below_zero) at m))
+    (needed_sound (codes "h") (number_sound not_below_zero) at m)
+
+resources_sound : RowsAreSound resource_rows
+unfolding resource_rows
+resources_sound at m =
+    also_sound (also_sound (good_sound tt)
+    (unbuilt_sound (codes "slots") at m))
+    (optional_sound (codes "assets") [] (list_sound max_assets (object_sound asset_sound)) at m)
+
 root_sound : (names : Names) → RowsAreSound (root_rows names)
 unfolding root_rows
 root_sound names at m =
-    row_sound (also_sound (also_sound (row_sound (row_sound (row_sound (row_sound (good_sound _)
-    (needed_sound (codes "w") (number_sound not_below_zero) at m))
-    (needed_sound (codes "h") (number_sound not_below_zero) at m))
+    row_sound (also_sound (row_sound (row_sound (row_sound (good_sound _)
+    (size_sound at m))
     (needed_sound (codes "fr") (number_sound above_zero) at m))
     (running_time_sound at m))
-    (unbuilt_sound (codes "slots") at m))
-    (optional_sound (codes "assets") [] (list_sound max_assets (object_sound asset_sound)) at m))
+    (resources_sound at m))
     (needed_sound (codes "layers") (list_sound max_layers (object_sound (typed_layer_sound names))) at m)
 
 pub document_sound : (j : Json) → IsSound (document j)

@@ -17,7 +17,7 @@ use Rattle.lot_read.specs.Findings.{Findings, Reader, Row, Pairs, under, item, g
 use Rattle.lot_read.specs.Lists.{each, at_most, list}
 use Rattle.lot_read.specs.Number.{any, in_range, number}
 use Rattle.lot_read.specs.Rows.{needed, optional, object}
-use Rattle.lot_read.specs.Whole.{whole_number, limited_to, allowed, allowed_or_refused, whole}
+use Rattle.lot_read.specs.Whole.{whole_number, where_between, allowed, allowed_or_refused, whole}
 
 -- The value, if there is one, has the property.
 pub record GivesOnly {A : Type 0} (P : A → Type 0) (found : Findings A) : Type 0 where
@@ -148,7 +148,7 @@ within_only at low n true true e = good_only n (leb-true low n e)
 within_only at low n true false e = bad_only Value at
 within_only at low n false below e = bad_only Value at
 
-allowed_only : (at : List Step) (low high : ℕ) (n : Option ℕ) → GivesOnly (λ k. low ≤ k) (allowed_or_refused at (n >>= limited_to low high))
+allowed_only : (at : List Step) (low high : ℕ) (n : Option ℕ) → GivesOnly (λ k. low ≤ k) (allowed_or_refused at (n >>= where_between low high))
 allowed_only at low high (Some n) = within_only at low n (nat_le low n) (nat_le n high) refl
 allowed_only at low high None = bad_only Value at
 

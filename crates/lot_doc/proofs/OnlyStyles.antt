@@ -1,6 +1,5 @@
 -- Each style that the tables give is good: where there are no slots, its properties have values in any document.
 use Rattle.std.proofs.Common.{ℕ, ℤ, pos, Bool, [], codes, refl, arith}
-use Rattle.std.specs.List.{All}
 use Rattle.std.proofs.lemmas.List.Elements.{All-nil, All-weaker}
 use Rattle.lot_types.specs.declared.color.Color.{Color}
 use Rattle.lot_types.specs.declared.dash.Dash.{Dash}
@@ -14,7 +13,6 @@ use Rattle.lot_types.specs.Items.{DashesHaveValues}
 use Rattle.lot_types.specs.Slots.{HasScalar}
 use Rattle.lot_read.specs.Lists.{list}
 use Rattle.lot_types.specs.Limits.{max_list_items}
-use Rattle.lot_read.specs.Number.{any, number}
 use Rattle.lot_read.specs.Rows.{needed, optional, object}
 use Rattle.lot_read.specs.Transform.{hundred_per_cent}
 use Rattle.lot_read.specs.Whole.{whole}
@@ -24,7 +22,7 @@ use Rattle.lot_doc.specs.declared.gradient.Geometry.{Geometry}
 use Rattle.lot_doc.specs.declared.stroke.Line.{Line}
 use Rattle.lot_doc.specs.Gradient.{max_stops, colors_rows, stops_rows, needed_stops, geometry_rows, focus_rows, base_gradient_rows, gradient_fill_rows, gradient_stroke_rows}
 use Rattle.lot_doc.specs.ItemHead.{head_rows}
-use Rattle.lot_doc.specs.Style.{fill_rule, fill_rows, dash_kind, dash_rows, default_miter, line_rows, stroke_rows}
+use Rattle.lot_doc.specs.Style.{fill_rule, fill_rows, dash_kind, dash_rows, cap_and_join_rows, line_rows, stroke_rows}
 use Rattle.lot_doc.proofs.GoodItems.{IsGood, single, EverColor, EverGradient, scalar_needed, vector_needed, color_needed, gradient_needed}
 use Rattle.lot_doc.proofs.Only.{RowsGiveOnly, AreFew, good_only, row_only, any_row_only, then_only, needed_only, optional_only, object_only, list_only}
 use Rattle.lot_doc.proofs.OnlyTransform.{EverScalar, EverVector, scalar_or_only}
@@ -63,11 +61,9 @@ line_only : RowsGiveOnly EverLine (line_rows [])
 unfolding line_rows
 line_only at m =
     row_only (dashes_only at m)
-    (any_row_only (optional (codes "ml") (number any) default_miter at m)
-    (any_row_only (optional (codes "lj") (whole 1 3) 2 at m)
-    (any_row_only (optional (codes "lc") (whole 1 3) 2 at m)
+    (any_row_only (cap_and_join_rows at m)
     (row_only (scalar_needed (codes "w") at m)
-    (good_only _ (λ w ever_w lc lj ml d ever_d. (ever_w, ever_d)))))))
+    (good_only _ (λ w ever_w turns d ever_d. (ever_w, ever_d)))))
 
 dashes_have_values : (doc : Doc) (l : Line) → EverLine l → DashesHaveValues doc l.d
 dashes_have_values doc l ever = All-weaker EverDash (λ dash. HasScalar doc dash.v) (λ dash h. h doc) l.d ever.1.1

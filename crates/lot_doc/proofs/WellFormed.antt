@@ -15,19 +15,18 @@ use Rattle.lot_types.specs.declared.transform.Transform.{Transform}
 use Rattle.lot_types.specs.WellFormed.{HasFewLayers, HasKindValues, HasLayerValues, LayersHaveValues, IsBuiltKind, IsBuilt, LayersAreBuilt, IsWellFormed}
 use Rattle.lot_types.specs.Limits.{max_layers}
 use Rattle.lot_json.specs.declared.tree.json.Json.{Json}
-use Rattle.lot_read.specs.Lists.{list}
 use Rattle.lot_types.specs.Limits.{max_list_items}
 use Rattle.lot_read.specs.Number.{not_below_zero, above_zero, number}
-use Rattle.lot_read.specs.Rows.{needed, optional, unbuilt, object}
+use Rattle.lot_read.specs.Rows.{needed, unbuilt}
 use Rattle.lot_doc.specs.declared.layer_type.LayerType.{LayerType}
 use Rattle.lot_doc.specs.declared.layer_type.LayerType.TheVariants.{Solid, Null, Shape}
 use Rattle.lot_doc.specs.Color.{hex_color}
 use Rattle.lot_doc.specs.declared.layer.Header.{Header}
 use Rattle.lot_doc.specs.declared.layer.Content.{Content}
+use Rattle.lot_doc.specs.declared.root.Size.{Size}
 use Rattle.lot_doc.specs.declared.running_time.RunningTime.{RunningTime}
-use Rattle.lot_doc.specs.Feature.{asset_rows}
 use Rattle.lot_doc.specs.Layer.{layer_type, header_rows, solid_rows, shape_rows, type_rows, kind_rows, content_rows, layer_of, layer_rows, typed_layer_rows}
-use Rattle.lot_doc.specs.Root.{max_assets, running_time_rows, comp_of_layers, doc_of, root_rows, document}
+use Rattle.lot_doc.specs.Root.{running_time_rows, size_rows, resource_rows, comp_of_layers, doc_of, root_rows, document}
 use Rattle.lot_doc.proofs.Only.{GivesOnly, RowsGiveOnly, AreFew, good_only, row_only, any_row_only, also_only, then_only, needed_only, object_only, number_only, list_only}
 use Rattle.lot_doc.proofs.OnlyItems.{item_only, are_items}
 use Rattle.lot_doc.proofs.OnlyTransform.{EverValues, transform_only}
@@ -97,10 +96,10 @@ typed_layer_rows_only at m =
 abbrev IsWellFormedDoc : Doc → Type 0
 IsWellFormedDoc d = (uses : List Use) → IsWellFormed (record { doc = d; uses = uses })
 
-well_formed_doc : (w h fr : ℤ) → above_zero fr ≡ true → (time : RunningTime) (layers : List Layer)
-    → AreFew max_layers LayerIsGood layers → IsWellFormedDoc (doc_of w h fr time layers)
-well_formed_doc w h fr above time layers few uses =
-    let d = doc_of w h fr time layers in
+well_formed_doc : (size : Size) (fr : ℤ) → above_zero fr ≡ true → (time : RunningTime) (layers : List Layer)
+    → AreFew max_layers LayerIsGood layers → IsWellFormedDoc (doc_of size fr time layers)
+well_formed_doc size fr above time layers few uses =
+    let d = doc_of size fr time layers in
     let main = comp_of_layers layers in
     record {
       some = omega arith;
@@ -117,13 +116,11 @@ root_rows_only : RowsGiveOnly IsWellFormedDoc (root_rows [])
 unfolding root_rows
 root_rows_only at m =
     row_only (needed_only (codes "layers") (list_only max_layers (object_only typed_layer_rows_only)) at m)
-    (also_only (optional (codes "assets") (list max_assets (object asset_rows)) [] at m)
-    (also_only (unbuilt (codes "slots") at m)
+    (also_only (resource_rows at m)
     (any_row_only (running_time_rows at m)
     (row_only (needed_only (codes "fr") (number_only above_zero) at m)
-    (any_row_only (needed (codes "h") (number not_below_zero) at m)
-    (any_row_only (needed (codes "w") (number not_below_zero) at m)
-    (good_only (λ (w h fr : ℤ) (time : RunningTime) (layers : List Layer). doc_of w h fr time layers) well_formed_doc)))))))
+    (any_row_only (size_rows at m)
+    (good_only (λ (size : Size) (fr : ℤ) (time : RunningTime) (layers : List Layer). doc_of size fr time layers) well_formed_doc)))))
 
 pub value_is_well_formed : (j : Json) (r : Read) → (document j).value ≡ Some r.doc → IsWellFormed r
 value_is_well_formed j r is =

@@ -1,6 +1,6 @@
 -- The table of the members of a layer. The members are those of the Lottie Specification 1.0, "Layers"; which of them
 -- are read, and the order of their faults, is this project's own.
-use Rattle.std.specs.Prelude.{◌==◌, ℤ, pos, ◌*◌, ◌%◌, ◌^◌, false, unsigned_abs, List, [], None, codes, if◌then◌else◌}
+use Rattle.std.specs.Prelude.{◌==◌, ℤ, pos, ◌*◌, ◌%◌, ◌^◌, Bool, false, unsigned_abs, List, [], None, codes, if◌then◌else◌}
 use Rattle.std.specs.Ordering.{int_eq}
 use Rattle.lot_types.specs.declared.fault.FaultCode.TheVariants as code
 use Rattle.lot_types.specs.declared.layer.Layer.{Layer}
@@ -19,6 +19,7 @@ use Rattle.lot_read.specs.Transform.{transform}
 use Rattle.lot_doc.specs.declared.layer_type.LayerType.{LayerType}
 use Rattle.lot_doc.specs.declared.layer_type.LayerType.TheVariants.{Solid, Null, Shape}
 use Rattle.lot_doc.specs.declared.layer.Header.{Header}
+use Rattle.lot_doc.specs.declared.layer.Links.{Links}
 use Rattle.lot_doc.specs.declared.layer.Content.{Content}
 use Rattle.lot_doc.specs.Color.{hex_color}
 use Rattle.lot_doc.specs.Feature.{left_out}
@@ -37,19 +38,31 @@ layer_type_or_fault at z =
 unfoldable pub layer_type : Reader LayerType
 layer_type at j = number any at j then layer_type_or_fault at
 
+-- The number of a layer, and that of its parent.
+unfoldable pub link_rows : Row Links
+link_rows at m =
+    good (λ ind parent. record { ind = ind; parent = parent })
+    ⊛ maybe (codes "ind") (number any) at m
+    ⊛ maybe (codes "parent") (number any) at m
+
+-- The members of mattes, which are not built yet.
+unfoldable pub matte_rows : Row (Unit {0})
+matte_rows at m = good tt also unbuilt (codes "td") at m also unbuilt (codes "tt") at m also unbuilt (codes "tp") at m
+
+abbrev pub header_of : Bool → Links → ℤ → ℤ → Header
+header_of hidden links ip op =
+    record { hidden = hidden; ind = links.ind; parent = links.parent; ip = ip; op = op }
+
 -- The rows of a layer before its transform.
 unfoldable pub header_rows : Row Header
 header_rows at m =
-    good (λ hidden ind parent ip op. record { hidden = hidden; ind = ind; parent = parent; ip = ip; op = op })
+    good (λ hidden links ip op. header_of hidden links ip op)
     also left_out at m
     ⊛ optional (codes "hd") flag false at m
-    ⊛ maybe (codes "ind") (number any) at m
-    ⊛ maybe (codes "parent") (number any) at m
+    ⊛ link_rows at m
     ⊛ needed (codes "ip") (number any) at m
     ⊛ needed (codes "op") (number any) at m
-    also unbuilt (codes "td") at m
-    also unbuilt (codes "tt") at m
-    also unbuilt (codes "tp") at m
+    also matte_rows at m
 
 -- The rectangle of a solid layer.
 unfoldable pub solid_rows : Row LayerKind

@@ -13,6 +13,7 @@ use Rattle.lot_read.specs.Lists.{list}
 use Rattle.lot_read.specs.Number.{any, not_below_zero, above_zero, number}
 use Rattle.lot_read.specs.Rows.{needed, optional, unbuilt, object}
 use Rattle.lot_read.specs.SlotNames.{Names}
+use Rattle.lot_doc.specs.declared.root.Size.{Size}
 use Rattle.lot_doc.specs.declared.running_time.RunningTime.{RunningTime}
 use Rattle.lot_doc.specs.Feature.{asset_rows}
 use Rattle.lot_doc.specs.Layer.{typed_layer_rows}
@@ -36,21 +37,40 @@ running_time_rows at m =
 abbrev pub comp_of_layers : List Layer → Comp
 comp_of_layers layers = record { id = None; layers = layers }
 
+-- The width and the height of the animation.
+unfoldable pub size_rows : Row Size
+size_rows at m =
+    good (λ w h. record { w = w; h = h })
+    ⊛ needed (codes "w") (number not_below_zero) at m
+    ⊛ needed (codes "h") (number not_below_zero) at m
+
+-- What layers may name: slots, which are not built yet, and assets.
+unfoldable pub resource_rows : Row (Unit {0})
+resource_rows at m =
+    good tt
+    also unbuilt (codes "slots") at m
+    also optional (codes "assets") (list max_assets (object asset_rows)) [] at m
+
 -- The document of this size, frame rate and time whose one composition has these layers. It has no slots.
-abbrev pub doc_of : ℤ → ℤ → ℤ → RunningTime → List Layer → Doc
-doc_of w h fr time layers =
-    record { w = w; h = h; fr = fr; ip = time.ip; op = time.op; slots = []; comps = comp_of_layers layers ∷ [] }
+abbrev pub doc_of : Size → ℤ → RunningTime → List Layer → Doc
+doc_of size fr time layers = record {
+  w = size.w;
+  h = size.h;
+  fr = fr;
+  ip = time.ip;
+  op = time.op;
+  slots = [];
+  comps = comp_of_layers layers ∷ [];
+}
 
 -- The whole animation.
 unfoldable pub root_rows : Names → Row Doc
 root_rows names at m =
-    good (λ w h fr time layers. doc_of w h fr time layers)
-    ⊛ needed (codes "w") (number not_below_zero) at m
-    ⊛ needed (codes "h") (number not_below_zero) at m
+    good (λ size fr time layers. doc_of size fr time layers)
+    ⊛ size_rows at m
     ⊛ needed (codes "fr") (number above_zero) at m
     ⊛ running_time_rows at m
-    also unbuilt (codes "slots") at m
-    also optional (codes "assets") (list max_assets (object asset_rows)) [] at m
+    also resource_rows at m
     ⊛ needed (codes "layers") (list max_layers (object (typed_layer_rows names))) at m
 
 -- A document. It has no slots yet.

@@ -7,6 +7,7 @@ use Rattle.lot_types.specs.declared.dash.DashKind.TheVariants as dash
 use Rattle.lot_types.specs.declared.fault.FaultCode.TheVariants as code
 use Rattle.lot_types.specs.declared.item.Item.{Item}
 use Rattle.lot_types.specs.declared.item.Item.TheVariants.{Fill, Stroke}
+use Rattle.lot_types.specs.declared.prop.Prop.{Prop}
 use Rattle.lot_types.specs.declared.slot.SlotKind.TheVariants as kind
 use Rattle.lot_json.specs.declared.tree.json.Json.{out-Json}
 use Rattle.lot_json.specs.declared.tree.json.Json.TheOpen as tree
@@ -21,6 +22,7 @@ use Rattle.lot_read.specs.Rows.{needed, optional, object}
 use Rattle.lot_read.specs.SlotNames.{Names}
 use Rattle.lot_read.specs.Transform.{scalar_or, hundred_per_cent}
 use Rattle.lot_read.specs.Whole.{whole}
+use Rattle.lot_doc.specs.declared.stroke.CapAndJoin.{CapAndJoin}
 use Rattle.lot_doc.specs.declared.stroke.Line.{Line}
 use Rattle.lot_doc.specs.ItemHead.{head_rows}
 
@@ -61,14 +63,23 @@ dash_rows names at m =
 unfoldable pub default_miter : ℤ
 default_miter = pos (4 * 10 ^ 6)
 
--- The members that all strokes have.
-unfoldable pub line_rows : Names → Row Line
-line_rows names at m =
-    good (λ w lc lj ml d. record { w = w; lc = lc; lj = lj; ml = ml; d = d })
-    ⊛ needed_property kind.Scalar scalar names (codes "w") at m
+-- How a line ends and turns: the cap at its ends, the join at its corners, and the miter limit of a join.
+unfoldable pub cap_and_join_rows : Row CapAndJoin
+cap_and_join_rows at m =
+    good (λ lc lj ml. record { lc = lc; lj = lj; ml = ml })
     ⊛ optional (codes "lc") (whole 1 3) 2 at m
     ⊛ optional (codes "lj") (whole 1 3) 2 at m
     ⊛ optional (codes "ml") (number any) default_miter at m
+
+abbrev pub line_of : Prop ℤ → CapAndJoin → List Dash → Line
+line_of w turns d = record { w = w; lc = turns.lc; lj = turns.lj; ml = turns.ml; d = d }
+
+-- The members that all strokes have.
+unfoldable pub line_rows : Names → Row Line
+line_rows names at m =
+    good (λ w turns d. line_of w turns d)
+    ⊛ needed_property kind.Scalar scalar names (codes "w") at m
+    ⊛ cap_and_join_rows at m
     ⊛ optional (codes "d") (list max_list_items (object (dash_rows names))) [] at m
 
 unfoldable pub stroke_rows : Names → Row Item

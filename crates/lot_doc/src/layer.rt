@@ -2,7 +2,7 @@
 ghost use Rattle.std.specs.Prelude.{◌≡◌, IfOk, IfErr, Ok, Err};
 ghost use Rattle.lot_read.specs.Members.{RowGives, SameMembers};
 ghost use Rattle.lot_read.specs.SlotNames.{names_in};
-ghost use Rattle.lot_doc.specs.Layer.{header_rows, solid_rows, shape_rows, type_rows, kind_rows, content_rows, layer_rows, typed_layer_rows};
+ghost use Rattle.lot_doc.specs.Layer.{link_rows, matte_rows, header_rows, solid_rows, shape_rows, type_rows, kind_rows, content_rows, layer_rows, typed_layer_rows};
 
 use crate::color::ColorText;
 use crate::feature::refuse_left_out;
@@ -28,6 +28,13 @@ impl<'a> Rows for LayerRows<'a> {
         let ty = members.needed("ty", &LayerTypeValue)?;
         read_layer(self.names, ty, members)
     }
+}
+
+/// The number of a layer, and that of its parent.
+#[derive(Clone, Copy)]
+struct Links {
+    ind: Option<Fx>,
+    parent: Option<Fx>,
 }
 
 /// The members of a layer before its transform.
@@ -79,13 +86,10 @@ fn read_header(members: &mut Members) -> Result<Header, Refusal>
 {
     refuse_left_out(members)?;
     let hidden = members.optional("hd", &Flag, false)?;
-    let ind = members.maybe("ind", &NumberValue::Any)?;
-    let parent = members.maybe("parent", &NumberValue::Any)?;
+    let Links { ind, parent } = read_links(members)?;
     let ip = members.needed("ip", &Moment)?;
     let op = members.needed("op", &Moment)?;
-    members.unbuilt("td")?;
-    members.unbuilt("tt")?;
-    members.unbuilt("tp")?;
+    refuse_mattes(members)?;
     Ok(Header {
         hidden,
         ind,
@@ -93,6 +97,29 @@ fn read_header(members: &mut Members) -> Result<Header, Refusal>
         ip,
         op,
     })
+}
+
+/// Reads the number `ind` of a layer, and that of its parent.
+#[tactic(auto, using(lot_read::proofs::Faults::first_of_prefix), unfolding(crate::specs::Layer::link_rows))]
+fn read_links(members: &mut Members) -> Result<Links, Refusal>
+    ensures gives { RowGives result members.old members.new link_rows }
+    ensures same { SameMembers members.old members.new }
+{
+    let ind = members.maybe("ind", &NumberValue::Any)?;
+    let parent = members.maybe("parent", &NumberValue::Any)?;
+    Ok(Links { ind, parent })
+}
+
+/// Refuses mattes, which are not built yet.
+#[tactic(auto, using(lot_read::proofs::Faults::first_of_prefix), unfolding(crate::specs::Layer::matte_rows))]
+fn refuse_mattes(members: &mut Members) -> Result<(), Refusal>
+    ensures gives { RowGives result members.old members.new matte_rows }
+    ensures same { SameMembers members.old members.new }
+{
+    members.unbuilt("td")?;
+    members.unbuilt("tt")?;
+    members.unbuilt("tp")?;
+    Ok(())
 }
 
 /// Reads the transform of a layer, and what the layer shows.

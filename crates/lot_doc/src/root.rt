@@ -1,13 +1,14 @@
 //! The reader of the members of a whole animation.
 ghost use Rattle.std.specs.Prelude.{◌≡◌, [], ◌∷◌, IfOk};
 ghost use Rattle.lot_read.specs.SlotNames.{names_in};
-ghost use Rattle.lot_doc.specs.Root.{comp_of_layers, root_rows};
+ghost use Rattle.lot_doc.specs.Root.{size_rows, resource_rows, comp_of_layers, root_rows};
+ghost use Rattle.lot_read.specs.Members.{RowGives, SameMembers};
 
 use crate::asset::AssetRows;
 use crate::layer::LayerRows;
 use crate::running_time::{RunningTime, read_running_time};
 use lot_read::{ListOf, Members, NumberValue, Object, Rows, SlotNames};
-use lot_types::{Comp, Doc, Layer, Memory, Refusal, Seq};
+use lot_types::{Comp, Doc, Fx, Layer, Memory, Refusal, Seq};
 use std::alloc::Global;
 
 /// The greatest number of layers of a composition.
@@ -44,12 +45,10 @@ impl<'a> Rows for RootRows<'a> {
             },
         };
         let alloc = members.at.allocator();
-        let w = members.needed("w", &NumberValue::NotBelowZero)?;
-        let h = members.needed("h", &NumberValue::NotBelowZero)?;
+        let Size { w, h } = read_size(members)?;
         let fr = members.needed("fr", &NumberValue::AboveZero)?;
         let RunningTime { ip, op } = read_running_time(members)?;
-        members.unbuilt("slots")?;
-        members.optional("assets", &ASSETS, Seq::new(alloc))?;
+        read_resources(members)?;
         let layers = members.needed("layers", &layers)?;
         let comps = main_comp_of(layers, alloc)?;
         Ok(Doc {
@@ -62,6 +61,36 @@ impl<'a> Rows for RootRows<'a> {
             comps,
         })
     }
+}
+
+/// The width and the height of the animation, in pixels.
+#[derive(Clone, Copy)]
+struct Size {
+    w: Fx,
+    h: Fx,
+}
+
+/// Reads the size of the animation.
+#[tactic(auto, using(lot_read::proofs::Faults::first_of_prefix), unfolding(crate::specs::Root::size_rows))]
+fn read_size(members: &mut Members) -> Result<Size, Refusal>
+    ensures gives { RowGives result members.old members.new size_rows }
+    ensures same { SameMembers members.old members.new }
+{
+    let w = members.needed("w", &NumberValue::NotBelowZero)?;
+    let h = members.needed("h", &NumberValue::NotBelowZero)?;
+    Ok(Size { w, h })
+}
+
+/// Reads what layers may name: slots, which are not built yet, and assets, of which none is supported.
+#[tactic(auto, using(lot_read::proofs::Faults::first_of_prefix), unfolding(crate::specs::Root::resource_rows))]
+fn read_resources(members: &mut Members) -> Result<(), Refusal>
+    ensures gives { RowGives result members.old members.new resource_rows }
+    ensures same { SameMembers members.old members.new }
+{
+    members.unbuilt("slots")?;
+    let none = Seq::new(members.at.allocator());
+    members.optional("assets", &ASSETS, none)?;
+    Ok(())
 }
 
 /// The main composition, with these layers, as the only one. Want of memory is the one refusal.

@@ -5,6 +5,7 @@ use Rattle.std.specs.Ordering.{int_eq}
 use Rattle.lot_num.specs.Round.{limit}
 use Rattle.lot_types.specs.declared.matrix.Matrix.{Matrix}
 use Rattle.lot_types.specs.declared.point.Point.{Point}
+use Rattle.lot_types.specs.Points.{point}
 use Rattle.lot_geom.specs.Matrix.{one_whole, sum_of_products, mapped, is_translation}
 use Rattle.lot_geom.specs.Offset.{moved}
 use Rattle.lot_geom.proofs.Turns.{left_kept, right_kept}
@@ -24,9 +25,6 @@ left x y a c e f =
 right : (x y b d : ℤ) → b ≡ pos 0 → d ≡ one_whole → sum_of_products x b y d ≡ y
 right x y b d e f =
     ap (λ (z : ℤ). sum_of_products x z y d) e ∙ ap (λ (z : ℤ). sum_of_products x (pos 0) y z) f ∙ right_kept x y
-
-abbrev point : ℤ → ℤ → Point
-point x y = record { x = x; y = y }
 
 same_point : (x y u v : ℤ) → x ≡ u → y ≡ v → point x y ≡ point u v
 same_point x y u v e f = cc

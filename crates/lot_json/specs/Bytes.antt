@@ -46,8 +46,8 @@ plus_sign = 43
 abbrev pub minus_sign : ℕ
 minus_sign = 45
 
-abbrev pub point : ℕ
-point = 46
+abbrev pub decimal_point : ℕ
+decimal_point = 46
 
 abbrev pub digit_0 : ℕ
 digit_0 = 48

@@ -4,7 +4,7 @@ use Rattle.lot_json.specs.declared.tree.number.Number.{Number}
 use Rattle.lot_json.specs.declared.tokens.number_token.NumberToken.{NumberToken}
 use Rattle.lot_json.specs.declared.tokens.number_token.NumberPlace.{NumberPlace}
 use Rattle.lot_json.specs.declared.tokens.number_token.NumberPlace.TheVariants.{Start, Zero, Whole, Point, Fraction, Exponent, Sign, Power}
-use Rattle.lot_json.specs.Bytes.{plus_sign, minus_sign, point, lower_e, upper_e}
+use Rattle.lot_json.specs.Bytes.{plus_sign, minus_sign, decimal_point, lower_e, upper_e}
 use Rattle.lot_json.specs.NumberToken.{IsDigit, AreDigits, AreSomeDigits, IsWholePart, IsFraction, IsExponent, IsPower, append_digits, micro}
 
 -- The token before its first digit, after a minus or not.
@@ -72,4 +72,4 @@ IsFirstNumberByte c = IsDigit c ⊎ (c ≡ minus_sign)
 -- A byte that a number token may contain: a digit, a sign, a point, an 'e' or an 'E'.
 abbrev pub IsNumberByte : ℕ → Type 0
 IsNumberByte c = IsDigit c
-    ⊎ ((c ≡ plus_sign) ⊎ ((c ≡ minus_sign) ⊎ ((c ≡ point) ⊎ ((c ≡ lower_e) ⊎ (c ≡ upper_e)))))
+    ⊎ ((c ≡ plus_sign) ⊎ ((c ≡ minus_sign) ⊎ ((c ≡ decimal_point) ⊎ ((c ≡ lower_e) ⊎ (c ≡ upper_e)))))

@@ -3,7 +3,7 @@
 use Rattle.std.specs.Prelude.{◌≡◌, ℕ, ℤ, pos, negsuc, ◌+◌, ◌-◌, ◌*◌, ◌/◌, ◌%◌, ◌^◌, ◌≤◌, ◌+ℤ◌, ◌-ℤ◌, ◌⊎◌, Bool, List, [], ◌∷◌, ◌++◌, length, nat_lt, nat_le, if◌then◌else◌}
 use Rattle.lot_json.specs.declared.tree.number.Number.{Number}
 use Rattle.lot_json.specs.declared.tree.number.Number.TheVariants.{Micro, Beyond}
-use Rattle.lot_json.specs.Bytes.{digit_0, digit_1, digit_9, plus_sign, minus_sign, point, lower_e, upper_e}
+use Rattle.lot_json.specs.Bytes.{digit_0, digit_1, digit_9, plus_sign, minus_sign, decimal_point, lower_e, upper_e}
 
 -- One of the bytes '0' to '9'.
 abbrev pub IsDigit : ℕ → Type 0
@@ -36,7 +36,7 @@ AreSomeDigits (c ∷ cs) = AreDigits (c ∷ cs)
 -- The text of a fraction, and its digits: nothing, or a point and some digits.
 abbrev pub IsFraction : List ℕ → List ℕ → Type 0
 IsFraction [] digits = digits ≡ []
-IsFraction (c ∷ cs) digits = (c ≡ point) × AreSomeDigits cs × (digits ≡ cs)
+IsFraction (c ∷ cs) digits = (c ≡ decimal_point) × AreSomeDigits cs × (digits ≡ cs)
 
 -- The text of an exponent after its 'e' or 'E', and its number: perhaps a sign, and some digits.
 abbrev pub IsPower : List ℕ → ℤ → Type 0

@@ -1,11 +1,8 @@
 -- Closed contours and their segments.
-use Rattle.std.specs.Prelude.{ℤ, true, List}
+use Rattle.std.specs.Prelude.{true, List}
 use Rattle.lot_types.specs.declared.contour.Contour.{Contour}
 use Rattle.lot_types.specs.declared.point.Point.{Point}
 use Rattle.lot_types.specs.declared.seg.Seg.{Seg}
-
-abbrev pub point_xy : ℤ → ℤ → Point
-point_xy x y = record { x = x; y = y }
 
 -- The straight segment from one point to another.
 abbrev pub straight : Point → Point → Seg

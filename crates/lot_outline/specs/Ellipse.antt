@@ -3,19 +3,20 @@ use Rattle.std.specs.Prelude.{ℤ, List, [], ◌∷◌}
 use Rattle.lot_types.specs.declared.contour.Contour.{Contour}
 use Rattle.lot_types.specs.declared.point.Point.{Point}
 use Rattle.lot_types.specs.declared.seg.Seg.{Seg}
+use Rattle.lot_types.specs.Points.{point}
 use Rattle.lot_outline.specs.declared.sides.Sides.{Sides}
 use Rattle.lot_outline.specs.Arc.{arc_handle}
-use Rattle.lot_outline.specs.Closed.{point_xy, curved, closed}
+use Rattle.lot_outline.specs.Closed.{curved, closed}
 use Rattle.lot_outline.specs.Number.{half}
 use Rattle.lot_outline.specs.Sides.{sides_around}
 
 -- Four quarters about the center p within the sides b, clockwise from the top, by control points on the lines h.
 unfoldable pub quarters : Point → Sides → Sides → List Seg
 quarters p b h =
-    curved (point_xy h.right b.top) (point_xy b.right h.top) (point_xy b.right p.y)
-    ∷ curved (point_xy b.right h.bottom) (point_xy h.right b.bottom) (point_xy p.x b.bottom)
-    ∷ curved (point_xy h.left b.bottom) (point_xy b.left h.bottom) (point_xy b.left p.y)
-    ∷ curved (point_xy b.left h.top) (point_xy h.left b.top) (point_xy p.x b.top)
+    curved (point h.right b.top) (point b.right h.top) (point b.right p.y)
+    ∷ curved (point b.right h.bottom) (point h.right b.bottom) (point p.x b.bottom)
+    ∷ curved (point h.left b.bottom) (point b.left h.bottom) (point b.left p.y)
+    ∷ curved (point b.left h.top) (point h.left b.top) (point p.x b.top)
     ∷ []
 
 -- The ellipse about the center p with the radii rx and ry.
@@ -23,7 +24,7 @@ abbrev pub ellipse_of_radii : Point → ℤ → ℤ → Contour
 ellipse_of_radii p rx ry =
     let sides = sides_around p rx ry in
     let handles = sides_around p (arc_handle rx) (arc_handle ry) in
-    closed (point_xy p.x sides.top) (quarters p sides handles)
+    closed (point p.x sides.top) (quarters p sides handles)
 
 -- The ellipse about the center p of the size s.
 unfoldable pub ellipse : Point → Point → Contour

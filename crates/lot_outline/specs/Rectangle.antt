@@ -6,10 +6,11 @@ use Rattle.std.specs.Ordering.{int_eq}
 use Rattle.lot_types.specs.declared.contour.Contour.{Contour}
 use Rattle.lot_types.specs.declared.point.Point.{Point}
 use Rattle.lot_types.specs.declared.seg.Seg.{Seg}
+use Rattle.lot_types.specs.Points.{point}
 use Rattle.lot_types.specs.Handles.{nearest_in}
 use Rattle.lot_outline.specs.declared.sides.Sides.{Sides}
 use Rattle.lot_outline.specs.Arc.{arc_handle}
-use Rattle.lot_outline.specs.Closed.{point_xy, straight, curved, closed}
+use Rattle.lot_outline.specs.Closed.{straight, curved, closed}
 use Rattle.lot_outline.specs.Number.{minus, half}
 use Rattle.lot_outline.specs.Sides.{sides_around, inset}
 
@@ -21,35 +22,35 @@ corner_radius s r = nearest_in (pos 0, int_min (half s.x) (half s.y)) r
 -- From the right upper corner, clockwise.
 abbrev pub sharp_segs : Sides → List Seg
 sharp_segs b =
-    straight (point_xy b.right b.top) (point_xy b.right b.bottom)
-    ∷ straight (point_xy b.right b.bottom) (point_xy b.left b.bottom)
-    ∷ straight (point_xy b.left b.bottom) (point_xy b.left b.top)
-    ∷ straight (point_xy b.left b.top) (point_xy b.right b.top)
+    straight (point b.right b.top) (point b.right b.bottom)
+    ∷ straight (point b.right b.bottom) (point b.left b.bottom)
+    ∷ straight (point b.left b.bottom) (point b.left b.top)
+    ∷ straight (point b.left b.top) (point b.right b.top)
     ∷ []
 
 -- From below the right upper corner, clockwise: straight along the sides b as far as the lines i, which are the radius
 -- further in, and round each corner by control points on the lines h.
 unfoldable pub rounded_segs : Sides → Sides → Sides → List Seg
 rounded_segs b i h =
-    straight (point_xy b.right i.top) (point_xy b.right i.bottom)
-    ∷ curved (point_xy b.right h.bottom) (point_xy h.right b.bottom) (point_xy i.right b.bottom)
-    ∷ straight (point_xy i.right b.bottom) (point_xy i.left b.bottom)
-    ∷ curved (point_xy h.left b.bottom) (point_xy b.left h.bottom) (point_xy b.left i.bottom)
-    ∷ straight (point_xy b.left i.bottom) (point_xy b.left i.top)
-    ∷ curved (point_xy b.left h.top) (point_xy h.left b.top) (point_xy i.left b.top)
-    ∷ straight (point_xy i.left b.top) (point_xy i.right b.top)
-    ∷ curved (point_xy h.right b.top) (point_xy b.right h.top) (point_xy b.right i.top)
+    straight (point b.right i.top) (point b.right i.bottom)
+    ∷ curved (point b.right h.bottom) (point h.right b.bottom) (point i.right b.bottom)
+    ∷ straight (point i.right b.bottom) (point i.left b.bottom)
+    ∷ curved (point h.left b.bottom) (point b.left h.bottom) (point b.left i.bottom)
+    ∷ straight (point b.left i.bottom) (point b.left i.top)
+    ∷ curved (point b.left h.top) (point h.left b.top) (point i.left b.top)
+    ∷ straight (point i.left b.top) (point i.right b.top)
+    ∷ curved (point h.right b.top) (point b.right h.top) (point b.right i.top)
     ∷ []
 
 abbrev pub sharp : Sides → Contour
-sharp b = closed (point_xy b.right b.top) (sharp_segs b)
+sharp b = closed (point b.right b.top) (sharp_segs b)
 
 -- With corners of the radius r.
 abbrev pub rounded : Sides → ℤ → Contour
 rounded b r =
     let corners = inset b r in
     let handles = inset b (minus r (arc_handle r)) in
-    closed (point_xy b.right corners.top) (rounded_segs b corners handles)
+    closed (point b.right corners.top) (rounded_segs b corners handles)
 
 abbrev pub with_corners : Sides → ℤ → Contour
 with_corners b r = if int_eq r (pos 0) then sharp b else rounded b r

@@ -1,6 +1,7 @@
 //! Closed contours and their segments.
 ghost use Rattle.std.specs.Prelude.{◌≡◌, IfOk};
-ghost use Rattle.lot_outline.specs.Closed.{point_xy, straight as straight_in, curved as curved_in, closed as closed_in};
+ghost use Rattle.lot_types.specs.Points.{point};
+ghost use Rattle.lot_outline.specs.Closed.{straight as straight_in, curved as curved_in, closed as closed_in};
 
 use lot_types::{Contour, Fx, Memory, Point, Seg, Seq};
 use std::alloc::Global;
@@ -30,7 +31,7 @@ fn list_of(alloc: Global, segs: &[Seg]) -> Result<Seq<Seg>, Memory>
 
 /// The point of two coordinates.
 pub(crate) fn at(x: Fx, y: Fx) -> Point
-    ensures { result ≡ point_xy x y }
+    ensures { result ≡ point x y }
 {
     Point { x, y }
 }

@@ -5,12 +5,10 @@ ghost use Rattle.lot_types.specs.Items.{is_style, HasOwnValues};
 ghost use Rattle.lot_types.specs.Painting.{IsWithin};
 
 use crate::brush::{fill_brush, stroke_brush};
-use crate::dashes::Pattern;
 use crate::gradient::gradient_ink;
 use crate::ink::flat_ink;
 use crate::mapped::painted_contours;
 use crate::opacity::style_opacity;
-use lot_prop::value_scalar;
 use lot_types::{Brush, Doc, Fx, Ink, Item, Memory, Outline, Paint, Painted, Seq, Time};
 use std::alloc::Global;
 
@@ -55,8 +53,7 @@ pub fn paint_of(
             d: dashes,
             ..
         } => {
-            let pattern = Pattern::of(alloc, d, dashes, t)?;
-            let brush = stroke_brush(value_scalar(d, w, t), *lc, *lj, *ml, pattern);
+            let brush = stroke_brush(alloc, d, t, w, *lc, *lj, *ml, dashes)?;
             let opacity = style_opacity(d, o, t, at.groups.items());
             painted(alloc, flat_ink(d, c, t), brush, opacity, at, leaves)
         }
@@ -91,8 +88,7 @@ pub fn paint_of(
             ..
         } => {
             let ink = gradient_ink(alloc, d, t, s, e, *kind, g, h, a)?;
-            let pattern = Pattern::of(alloc, d, dashes, t)?;
-            let brush = stroke_brush(value_scalar(d, w, t), *lc, *lj, *ml, pattern);
+            let brush = stroke_brush(alloc, d, t, w, *lc, *lj, *ml, dashes)?;
             let opacity = style_opacity(d, o, t, at.groups.items());
             painted(alloc, ink, brush, opacity, at, leaves)
         }

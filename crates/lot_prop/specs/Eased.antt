@@ -27,6 +27,7 @@ part_at key next t = record {
   ti = key.ti;
 }
 
+-- The coordinate of a component. There are three coordinates, so that the 0 after them is not reached.
 abbrev pub component : ℕ → List ℤ → ℤ
 component c coordinates = slice_index_or coordinates c (pos 0)
 

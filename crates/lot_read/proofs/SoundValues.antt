@@ -10,7 +10,6 @@ use Rattle.lot_types.specs.declared.prop.Track.{Track}
 use Rattle.lot_types.specs.declared.prop.Track.TheVariants.{Still, Moving}
 use Rattle.lot_types.specs.declared.point.Point.{Point}
 use Rattle.lot_types.specs.declared.color.Color.{Color}
-use Rattle.lot_types.specs.Curve.{Curve}
 use Rattle.lot_json.specs.declared.tree.json.Json.{Json, out-Json}
 use Rattle.lot_json.specs.declared.tree.json.Json.TheOpen as tree
 use Rattle.lot_json.specs.declared.tree.number.Number.{Number}
@@ -21,7 +20,7 @@ use Rattle.lot_read.specs.declared.slot_name.SlotName.{SlotName}
 use Rattle.lot_read.specs.declared.slot_name.SlotName.TheVariants.{Unnamed, Unknown, Known}
 use Rattle.lot_read.specs.declared.track.Absence.{Absence}
 use Rattle.lot_read.specs.declared.track.Absence.TheVariants.{Missing, NoValue}
-use Rattle.lot_read.specs.Bezier.{bezier, bezier_rows, as_many, differ, count_in}
+use Rattle.lot_read.specs.Bezier.{bezier, vertex_rows, bezier_of, bezier_rows, as_many, differ, count_in}
 use Rattle.lot_read.specs.Color.{color, three_parts, part}
 use Rattle.lot_read.specs.Findings.{Findings, Reader, Pairs, under, item, good, bad, ◌⊛◌, ◌also◌, ◌then◌, ◌on◌}
 use Rattle.lot_read.specs.Flag.{flag, unset, is_not_zero}
@@ -29,7 +28,9 @@ use Rattle.lot_read.specs.Gradient.{gradient, counted, miscounted}
 use Rattle.lot_types.specs.declared.key.Key.{Key}
 use Rattle.lot_types.specs.Handles.{Handles, nearest_handles}
 use Rattle.lot_read.specs.Handle.{coordinates, three_of, three_or_refused, for_each_component, handle_rows}
-use Rattle.lot_read.specs.Keyframe.{not_before, time_rows, time_of, start_value, no_tangent, space_tangent, key_of, key_rows, each_key, some_items, keys}
+use Rattle.lot_read.specs.declared.bezier.Vertices.{Vertices}
+use Rattle.lot_read.specs.declared.keyframe.Tangents.{Tangents}
+use Rattle.lot_read.specs.Keyframe.{not_before, time_rows, time_of, start_value, both_handles, ease_rows, no_tangent, space_tangent, tangent_rows, key_of, key_rows, each_key, some_items, keys}
 use Rattle.lot_read.specs.Lists.{at_most, list, length_of}
 use Rattle.lot_types.specs.Limits.{max_list_items}
 use Rattle.lot_read.specs.Number.{any, in_range, number, scalar}
@@ -130,21 +131,24 @@ as_many_sound : (name : List ℕ) (at : List Step) (vertices tangents : Option �
 unfolding as_many
 as_many_sound name at vertices tangents = if_sound (differ vertices tangents) (bad_sound code.Count (under at name)) (good_sound tt)
 
-abbrev curve_of : Bool → List Point → List Point → List Point → Curve
-curve_of closed v i o = record { closed = closed; v = v; i = i; o = o }
+abbrev vertices_of : List Point → List Point → List Point → Vertices
+vertices_of v i o = record { v = v; i = i; o = o }
+
+vertex_rows_sound : RowsAreSound vertex_rows
+unfolding vertex_rows
+vertex_rows_sound at m =
+    row_sound
+    (row_sound
+    (row_sound (good_sound vertices_of) (needed_sound (codes "v") (list_sound max_list_items vector_sound) at m))
+    (needed_sound (codes "i") (list_sound max_list_items vector_sound) at m))
+    (needed_sound (codes "o") (list_sound max_list_items vector_sound) at m)
 
 bezier_rows_sound : RowsAreSound bezier_rows
 unfolding bezier_rows
 bezier_rows_sound at m =
     also_sound
     (also_sound
-    (row_sound
-    (row_sound
-    (row_sound
-    (row_sound (good_sound curve_of) (optional_sound (codes "c") false flag_sound at m))
-    (needed_sound (codes "v") (list_sound max_list_items vector_sound) at m))
-    (needed_sound (codes "i") (list_sound max_list_items vector_sound) at m))
-    (needed_sound (codes "o") (list_sound max_list_items vector_sound) at m))
+    (row_sound (row_sound (good_sound bezier_of) (optional_sound (codes "c") false flag_sound at m)) (vertex_rows_sound at m))
     (as_many_sound (codes "i") at (count_in (codes "v") m) (count_in (codes "i") m)))
     (as_many_sound (codes "o") at (count_in (codes "v") m) (count_in (codes "o") m))
 
@@ -218,6 +222,21 @@ tangent_sound slot_kind.Color name at m = good_sound no_tangent
 tangent_sound slot_kind.Bezier name at m = good_sound no_tangent
 tangent_sound (slot_kind.Gradient stops) name at m = good_sound no_tangent
 
+ease_rows_sound : RowsAreSound ease_rows
+unfolding ease_rows
+ease_rows_sound at m =
+    row_sound
+    (row_sound (good_sound (λ (o i : Option Handles). both_handles o i)) (maybe_sound (codes "o") (object_sound handle_rows_sound) at m))
+    (maybe_sound (codes "i") (object_sound handle_rows_sound) at m)
+
+abbrev tangents_of : Point → Point → Tangents
+tangents_of to ti = record { to = to; ti = ti }
+
+tangent_rows_sound : (kind : SlotKind) → RowsAreSound (tangent_rows kind)
+unfolding tangent_rows
+tangent_rows_sound kind at m =
+    row_sound (row_sound (good_sound tangents_of) (tangent_sound kind (codes "to") at m)) (tangent_sound kind (codes "ti") at m)
+
 key_rows_sound : {T : Type 0} (kind : SlotKind) {value : Reader T} (before : Option ℤ) → ReadsSoundly value → RowsAreSound (key_rows kind value before)
 unfolding key_rows
 key_rows_sound {T} kind before sound at m =
@@ -226,16 +245,12 @@ key_rows_sound {T} kind before sound at m =
     (row_sound
     (row_sound
     (row_sound
-    (row_sound
-    (row_sound
-    (good_sound (λ (t : ℤ) (s : T) (h : Bool) (o i : Option Handles) (to ti : Point). key_of t s h o i to ti))
+    (good_sound (λ (t : ℤ) (s : T) (h : Bool) (ease : Option (Handles × Handles)) (tangents : Tangents). key_of t s h ease tangents))
     (time_rows_sound before at m))
     (start_value_sound sound at m))
     (optional_sound (codes "h") false flag_sound at m))
-    (maybe_sound (codes "o") (object_sound handle_rows_sound) at m))
-    (maybe_sound (codes "i") (object_sound handle_rows_sound) at m))
-    (tangent_sound kind (codes "to") at m))
-    (tangent_sound kind (codes "ti") at m)
+    (ease_rows_sound at m))
+    (tangent_rows_sound kind at m)
 
 each_key_sound : {T : Type 0} (kind : SlotKind) {value : Reader T} → ReadsSoundly value → (before : Option ℤ) (at : List Step) (i : ℕ) (js : List Json)
     → IsSound (each_key kind value before at i js)

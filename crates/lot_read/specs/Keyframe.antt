@@ -10,6 +10,7 @@ use Rattle.lot_json.specs.declared.tree.json.Json.{Json, out-Json}
 use Rattle.lot_json.specs.declared.tree.json.Json.TheOpen as tree
 use Rattle.lot_json.specs.declared.tree.pointer.Step.{Step}
 use Rattle.lot_json.specs.Lookup.{member}
+use Rattle.lot_read.specs.declared.keyframe.Tangents.{Tangents}
 use Rattle.lot_read.specs.Findings.{Findings, Reader, Row, under, item, good, bad, ◌⊛◌, ◌then◌}
 use Rattle.lot_read.specs.Flag.{flag}
 use Rattle.lot_read.specs.Handle.{handle_rows}
@@ -50,6 +51,13 @@ both_handles (Some o) (Some i) = Some (o, i)
 both_handles (Some o) None = None
 both_handles None i = None
 
+-- The handles of the easing after a keyframe.
+unfoldable pub ease_rows : Row (Option (Handles × Handles))
+ease_rows at m =
+    good (λ o i. both_handles o i)
+    ⊛ maybe (codes "o") (object handle_rows) at m
+    ⊛ maybe (codes "i") (object handle_rows) at m
+
 abbrev pub no_tangent : Point
 no_tangent = record { x = pos 0; y = pos 0 }
 
@@ -62,19 +70,24 @@ space_tangent slot_kind.Color name at m = good no_tangent
 space_tangent slot_kind.Bezier name at m = good no_tangent
 space_tangent (slot_kind.Gradient stops) name at m = good no_tangent
 
-abbrev pub key_of : {T : Type 0} → ℤ → T → Bool → Option Handles → Option Handles → Point → Point → Key T
-key_of t s h o i to ti = record { t = t; value = s; hold = h; ease = both_handles o i; to = to; ti = ti }
+-- The tangents of the curve through space: the one that leaves a keyframe, and the one that reaches the next.
+unfoldable pub tangent_rows : SlotKind → Row Tangents
+tangent_rows kind at m =
+    good (λ to ti. record { to = to; ti = ti })
+    ⊛ space_tangent kind (codes "to") at m
+    ⊛ space_tangent kind (codes "ti") at m
+
+abbrev pub key_of : {T : Type 0} → ℤ → T → Bool → Option (Handles × Handles) → Tangents → Key T
+key_of t s h ease tangents = record { t = t; value = s; hold = h; ease = ease; to = tangents.to; ti = tangents.ti }
 
 unfoldable pub key_rows : {T : Type 0} → SlotKind → Reader T → Option ℤ → Row (Key T)
 key_rows kind value before at m =
-    good (λ t s h o i to ti. key_of t s h o i to ti)
+    good (λ t s h ease tangents. key_of t s h ease tangents)
     ⊛ time_rows before at m
     ⊛ start_value value at m
     ⊛ optional (codes "h") flag false at m
-    ⊛ maybe (codes "o") (object handle_rows) at m
-    ⊛ maybe (codes "i") (object handle_rows) at m
-    ⊛ space_tangent kind (codes "to") at m
-    ⊛ space_tangent kind (codes "ti") at m
+    ⊛ ease_rows at m
+    ⊛ tangent_rows kind at m
 
 -- Every keyframe in order, the first of which has the index i and comes after one of this time.
 unfoldable pub each_key : {T : Type 0} → SlotKind → Reader T → Option ℤ → List Step → ℕ → List Json

@@ -10,11 +10,12 @@ abbrev pub whole_number : ℤ → Option ℕ
 whole_number (pos n) = if n % 10 ^ 6 == 0 then Some (n / 10 ^ 6) else None
 whole_number (negsuc n) = None
 
-abbrev pub limited_to : ℕ → ℕ → ℕ → Option ℕ
-limited_to low high n = if nat_le low n && nat_le n high then Some n else None
+-- The number where it is from `low` to `high`, both included.
+abbrev pub where_between : ℕ → ℕ → ℕ → Option ℕ
+where_between low high n = if nat_le low n && nat_le n high then Some n else None
 
 abbrev pub allowed : ℕ → ℕ → ℤ → Option ℕ
-allowed low high z = whole_number z >>= limited_to low high
+allowed low high z = whole_number z >>= where_between low high
 
 abbrev pub allowed_or_refused : List Step → Option ℕ → Findings ℕ
 allowed_or_refused at (Some n) = good n

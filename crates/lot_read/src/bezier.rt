@@ -1,7 +1,8 @@
 //! The reader of paths.
-ghost use Rattle.std.specs.Prelude.{◌≡◌, OnOk, Some};
+ghost use Rattle.std.specs.Prelude.{◌≡◌, ◌≤◌, length, codes, OnOk, IfOk, Some};
 ghost use Rattle.lot_types.specs.declared.slot.SlotKind.TheVariants as slot_kind;
-ghost use Rattle.lot_read.specs.Bezier.{bezier, bezier_rows, as_many};
+ghost use Rattle.lot_types.specs.Limits.{max_list_items};
+ghost use Rattle.lot_read.specs.Bezier.{bezier, vertex_rows, bezier_rows, as_many, HasCount};
 ghost use Rattle.lot_read.specs.Members.{RowGives, SameMembers};
 
 use crate::flag::Flag;
@@ -13,7 +14,7 @@ use crate::value_kind::ValueKind;
 use crate::value_or_first::ValueOrFirst;
 use crate::vector::VectorValue;
 use lot_json::{Json, Pointer};
-use lot_types::{Bezier, FaultCode, MAX_LIST_ITEMS, Refusal, Seq, SlotKind, Use};
+use lot_types::{Bezier, FaultCode, MAX_LIST_ITEMS, Point, Refusal, Seq, SlotKind, Use};
 
 /// Reads a path of cubic curves: an object, or the first item of a list, which is one. Its members are the flag `c`
 /// and the lists `v`, `i` and `o` of vectors, which have at most [`MAX_LIST_ITEMS`] items each. [`FaultCode::Count`]
@@ -57,16 +58,38 @@ impl Rows for BezierRows {
 
     ghost rows = { λ _. bezier_rows };
 
-    #[tactic(auto, using(crate::proofs::Faults::first_of_prefix, crate::proofs::Lengths::needed_count), unfolding(crate::specs::Bezier::bezier_rows))]
+    #[tactic(auto, using(crate::proofs::Faults::first_of_prefix), unfolding(crate::specs::Bezier::bezier_rows))]
     fn read_rows(&self, members: &mut Members) -> Result<Bezier, Refusal> {
         let closed = members.optional("c", &Flag, false)?;
-        let v = members.needed("v", &VECTORS)?;
-        let i = members.needed("i", &VECTORS)?;
-        let o = members.needed("o", &VECTORS)?;
+        let Vertices { v, i, o } = read_vertices(members)?;
         refuse_other_count("i", members, v.items().len(), i.items().len())?;
         refuse_other_count("o", members, v.items().len(), o.items().len())?;
         Ok(Bezier { closed, v, i, o })
     }
+}
+
+/// The vertices of a path and their tangents, which may be more or fewer.
+#[derive(Drop)]
+struct Vertices {
+    v: Seq<Point>,
+    i: Seq<Point>,
+    o: Seq<Point>,
+}
+
+/// Reads the vertices of a path and their tangents.
+#[tactic(auto, using(crate::proofs::Faults::first_of_prefix, crate::proofs::Lengths::needed_count, crate::proofs::Lengths::needed_few), unfolding(crate::specs::Bezier::vertex_rows))]
+fn read_vertices(members: &mut Members) -> Result<Vertices, Refusal>
+    ensures gives { RowGives result members.old members.new vertex_rows }
+    ensures few { IfOk result (λ found. length found.v ≤ max_list_items) }
+    ensures v { IfOk result (λ found. HasCount (codes "v") members.old found.v) }
+    ensures i { IfOk result (λ found. HasCount (codes "i") members.old found.i) }
+    ensures o { IfOk result (λ found. HasCount (codes "o") members.old found.o) }
+    ensures same { SameMembers members.old members.new }
+{
+    let v = members.needed("v", &VECTORS)?;
+    let i = members.needed("i", &VECTORS)?;
+    let o = members.needed("o", &VECTORS)?;
+    Ok(Vertices { v, i, o })
 }
 
 /// Refuses a list of tangents that has not as many items as that of the vertices: [`FaultCode::Count`] at the member

@@ -2,7 +2,7 @@
 ghost use Rattle.std.specs.Prelude.{◌≡◌, ◌<◌, ◌∷◌, length, Some, None, IfOk};
 ghost use Rattle.lot_types.specs.Limits.{max_list_items};
 ghost use Rattle.lot_read.specs.Findings.{item};
-ghost use Rattle.lot_read.specs.Keyframe.{time_rows, time_of, start_value, both_handles as both_in, space_tangent, key_rows, each_key, keys, IsNotBefore};
+ghost use Rattle.lot_read.specs.Keyframe.{time_rows, time_of, start_value, both_handles as both_in, ease_rows, space_tangent, tangent_rows, key_rows, each_key, keys, IsNotBefore};
 ghost use Rattle.lot_read.specs.Members.{RowGives, SameMembers, fixed_in};
 ghost use Rattle.lot_read.specs.Outcome.{Gives};
 ghost use Rattle.lot_read.specs.Rows.{object};
@@ -131,6 +131,14 @@ const NO_TANGENT: Point = Point {
     y: Fx::ZERO,
 };
 
+/// The tangents of the curve through space, in pixels from their keyframes: the one that leaves a keyframe, and the one
+/// that reaches the next.
+#[derive(Clone, Copy)]
+struct Tangents {
+    to: Point,
+    ti: Point,
+}
+
 /// Reads the members of a keyframe that comes after one of the time `before`. [`FaultCode::Order`] is at `t`, and a
 /// keyframe without a value is [`FaultCode::Unsupported`]. The tangents, in pixels, are vectors, and last.
 #[tactic(auto, using(crate::proofs::Faults::first_of_prefix), unfolding(crate::specs::Keyframe::key_rows))]
@@ -149,15 +157,13 @@ fn read_key<V: ValueKind>(
     let t = read_time(before, members)?;
     let start = read_start(value, members)?;
     let hold = members.optional("h", &Flag, false)?;
-    let o = members.maybe("o", &HANDLE)?;
-    let i = members.maybe("i", &HANDLE)?;
-    let to = read_tangent(value.kind(), "to", members)?;
-    let ti = read_tangent(value.kind(), "ti", members)?;
+    let ease = read_ease(members)?;
+    let Tangents { to, ti } = read_tangents(value.kind(), members)?;
     Ok(Key {
         t,
         value: start,
         hold,
-        ease: both_handles(o, i),
+        ease,
         to,
         ti,
     })
@@ -191,6 +197,17 @@ fn read_start<V: Reader>(value: &V, members: &mut Members) -> Result<V::Value, R
     }
 }
 
+/// Reads the handles of the easing after a keyframe. Where one is absent it is not eased.
+#[tactic(auto, using(crate::proofs::Faults::first_of_prefix), unfolding(crate::specs::Keyframe::ease_rows))]
+fn read_ease(members: &mut Members) -> Result<Option<(Ease3, Ease3)>, Refusal>
+    ensures gives { RowGives result members.old members.new ease_rows }
+    ensures same { SameMembers members.old members.new }
+{
+    let o = members.maybe("o", &HANDLE)?;
+    let i = members.maybe("i", &HANDLE)?;
+    Ok(both_handles(o, i))
+}
+
 /// Both handles, where they are there.
 fn both_handles(o: Option<Ease3>, i: Option<Ease3>) -> Option<(Ease3, Ease3)>
     ensures { result ≡ both_in o i }
@@ -199,6 +216,17 @@ fn both_handles(o: Option<Ease3>, i: Option<Ease3>) -> Option<(Ease3, Ease3)>
         (Some(o), Some(i)) => Some((o, i)),
         _ => None,
     }
+}
+
+/// Reads the tangents of the curve through space.
+#[tactic(auto, using(crate::proofs::Faults::first_of_prefix), unfolding(crate::specs::Keyframe::tangent_rows))]
+fn read_tangents(kind: SlotKind, members: &mut Members) -> Result<Tangents, Refusal>
+    ensures gives { RowGives result members.old members.new (tangent_rows kind) }
+    ensures same { SameMembers members.old members.new }
+{
+    let to = read_tangent(kind, "to", members)?;
+    let ti = read_tangent(kind, "ti", members)?;
+    Ok(Tangents { to, ti })
 }
 
 /// Reads a tangent of the curve through space: a vector, (0, 0) where it is absent. Vectors alone have one.

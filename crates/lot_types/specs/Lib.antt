@@ -7,6 +7,7 @@ pub mod Keyframes
 pub mod Limits
 pub mod Options
 pub mod Painting
+pub mod Points
 pub mod PropertyValues
 pub mod Ramp
 pub mod Range

@@ -62,6 +62,13 @@ impl Text {
         Ok(())
     }
 
+    /// Removes all characters, and keeps the memory that they took.
+    pub fn clear(&mut self)
+        ensures { self.new ≡ [] }
+    {
+        self.text.clear();
+    }
+
     /// The allocator of its bytes.
     pub fn allocator(&self) -> Global {
         *self.text.allocator()

@@ -20,18 +20,24 @@ pub enum Step {
 }
 
 /// The path to a value: the steps from the root. It has an allocator of its own.
+///
+/// A step that is removed stays where it is, so that the memory of its name serves the next one there.
 #[derive(Drop)]
 pub struct Pointer {
     steps: Vec<Step>,
+    /// How many steps the path has. Those after them were removed.
+    len: usize,
 }
 
 impl Model for Pointer {
-    ghost use Rattle.std.specs.Prelude.{List};
+    ghost use Rattle.std.specs.Prelude.{List, ◌≤◌, length, take};
     ghost use Rattle.lot_json.specs.declared.tree.pointer.Step.{Step};
 
     ghost Value = { List Step };
 
-    ghost view = { λ p. p.steps.items };
+    ghost view = { λ p. take p.len p.steps.items };
+
+    ghost invariant = { λ p. p.len ≤ length p.steps.items };
 }
 
 impl Pointer {
@@ -41,6 +47,7 @@ impl Pointer {
     {
         Ok(Pointer {
             steps: Vec::new(alloc),
+            len: 0,
         })
     }
 
@@ -56,8 +63,16 @@ impl Pointer {
         ensures err { OnErr result (self.new ≡ self.old) }
     {
         let name = unsafe { str::from_utf8_unchecked(name) };
-        let name = Text::of(self.allocator(), name)?;
-        self.steps.push(Step::Name(name))?;
+        let alloc = self.allocator();
+        if self.len == self.steps.len() {
+            self.steps.push(Step::Name(Text::of(alloc, name)?))?;
+        } else if let Step::Name(kept) = &mut self.steps[self.len] {
+            kept.clear();
+            kept.append(name)?;
+        } else {
+            self.steps[self.len] = Step::Name(Text::of(alloc, name)?);
+        }
+        self.len += 1;
         Ok(())
     }
 
@@ -66,7 +81,12 @@ impl Pointer {
         ensures ok { OnOk result (self.new ≡ self.old ++ step.Index i ∷ []) }
         ensures err { OnErr result (self.new ≡ self.old) }
     {
-        self.steps.push(Step::Index(i))?;
+        if self.len == self.steps.len() {
+            self.steps.push(Step::Index(i))?;
+        } else {
+            self.steps[self.len] = Step::Index(i);
+        }
+        self.len += 1;
         Ok(())
     }
 
@@ -75,7 +95,7 @@ impl Pointer {
         requires { 0 < length self.old }
         ensures { self.new ≡ take (length self.old - 1) self.old }
     {
-        self.steps.pop();
+        self.len -= 1;
     }
 
     /// The JSON pointer of the path by RFC 6901, section 3: `/` and the step, for each. That of the root is empty.
@@ -84,7 +104,7 @@ impl Pointer {
         ensures { IfOk result (λ t. t ≡ pointer_text self.now) }
     {
         let mut text = Text::new(self.allocator());
-        for step in self.steps.as_slice() {
+        for step in &self.steps[..self.len] {
             text.append("/")?;
             append_step(&mut text, step)?;
         }
