@@ -54,7 +54,7 @@ def attributes(names, values):
 
 
 def ink(rgb):
-    return "#" + "".join(f"{rounded(v * 255, ONE):02x}" for v in rgb)
+    return "#" + "".join(f"{rounded(fraction(v) * 255, ONE):02x}" for v in rgb)
 
 
 def definition(number, kind, s, e, h, a, stops):

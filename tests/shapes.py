@@ -375,11 +375,24 @@ def style_text(entries, outline_at, place, x, t, identifiers):
 
 
 def full_matrix(layers, layer, t):
-    m = matrix(layer["ks"], t)
-    while "parent" in layer:
-        layer = next(x for x in layers if x.get("ind") == layer["parent"])
-        m = then(m, matrix(layer["ks"], t))
-    return m
+    own = matrix(layer["ks"], t)
+    if "parent" not in layer:
+        return own
+    parent = next(x for x in layers if x.get("ind") == layer["parent"])
+    return then(own, full_matrix(layers, parent, t))
+
+
+def solid_text(layer):
+    w, h = micro(layer["sw"]), micro(layer["sh"])
+    rectangle = sharp((0, 0), (w, 0), (w, h), (0, h), (0, 0))
+    return f'<path fill="{layer["sc"].lower()}" d="{data([rectangle])}"/>\n'
+
+
+def shapes_text(layer, t, identifiers):
+    entries = list(live(layer["shapes"]))
+    outline_at = outlines(entries, t)
+    return "".join(style_text(entries, outline_at, place, x, t, identifiers)
+                   for place, x in reversed(entries) if x["ty"] in STYLES)
 
 
 def frame(doc, t):
@@ -389,11 +402,8 @@ def frame(doc, t):
     for layer in reversed(doc["layers"]):
         if layer.get("hd") or not micro(layer["ip"]) <= t < micro(layer["op"]) or layer["ty"] == 3:
             continue
-        entries = list(live(layer["shapes"]))
-        outline_at = outlines(entries, t)
         text += "<g" + matrix_text(full_matrix(doc["layers"], layer, t)) + fraction_text("opacity", opacity(layer["ks"], t)) + ">\n"
-        text += "".join(style_text(entries, outline_at, place, x, t, identifiers)
-                        for place, x in reversed(entries) if x["ty"] in STYLES)
+        text += solid_text(layer) if layer["ty"] == 1 else shapes_text(layer, t, identifiers)
         text += "</g>\n"
     return text + "</svg>\n"
 

@@ -1,2 +1,3 @@
 mod FullTable
+pub mod Present
 mod Styles

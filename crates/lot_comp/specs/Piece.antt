@@ -17,19 +17,15 @@ use Rattle.lot_types.specs.declared.matte.Matte.{Matte}
 use Rattle.lot_types.specs.declared.matte.Matte.TheVariants.{No, Alpha, AlphaInv, Luma, LumaInv}
 use Rattle.lot_types.specs.declared.paint.Paint.{Paint}
 use Rattle.lot_types.specs.declared.piece.Piece.{Piece}
-use Rattle.lot_types.specs.declared.point.Point.{Point}
 use Rattle.lot_types.specs.declared.rgb.Rgb.{Rgb}
-use Rattle.lot_types.specs.declared.seg.Seg.{Seg}
 use Rattle.lot_types.specs.Points.{point}
-
-abbrev pub side : Point → Point → Seg
-side from to = record { c1 = from; c2 = to; end = to }
+use Rattle.lot_types.specs.Segments.{straight}
 
 -- The closed contour (0, 0), (w, 0), (w, h), (0, h).
 abbrev pub solid_contour : ℤ → ℤ → Contour
 solid_contour w h =
     let a = point (pos 0) (pos 0) in let b = point w (pos 0) in let c = point w h in let d = point (pos 0) h in
-    record { closed = true; start = a; segs = side a b ∷ side b c ∷ side c d ∷ side d a ∷ [] }
+    record { closed = true; start = a; segs = straight a b ∷ straight b c ∷ straight c d ∷ straight d a ∷ [] }
 
 -- A rectangle that is filled with a color.
 abbrev pub solid_paint : ℤ → ℤ → Rgb → Paint

@@ -1,7 +1,6 @@
 //! The paint of solid layers.
 ghost use Rattle.std.specs.Prelude.{◌≡◌, IfOk};
-ghost use Rattle.lot_types.specs.Points.{point};
-ghost use Rattle.lot_comp.specs.Piece.{side as side_in, solid_contour as contour_in, solid_paint as paint_in};
+ghost use Rattle.lot_comp.specs.Piece.{solid_contour as contour_in, solid_paint as paint_in};
 
 use lot_types::{Brush, Contour, Fx, Ink, Matrix, Memory, Paint, Point, Rgb, Seg, Seq};
 use std::alloc::Global;
@@ -28,30 +27,13 @@ fn rectangle(alloc: Global, w: Fx, h: Fx) -> Result<Contour, Memory>
 {
     let zero = Fx::ZERO;
     let mut segs = Seq::with_capacity(alloc, 4)?;
-    segs.push(line(zero, zero, w, zero))?;
-    segs.push(line(w, zero, w, h))?;
-    segs.push(line(w, h, zero, h))?;
-    segs.push(line(zero, h, zero, zero))?;
+    segs.push(Seg::straight(Point::at(zero, zero), Point::at(w, zero)))?;
+    segs.push(Seg::straight(Point::at(w, zero), Point::at(w, h)))?;
+    segs.push(Seg::straight(Point::at(w, h), Point::at(zero, h)))?;
+    segs.push(Seg::straight(Point::at(zero, h), Point::at(zero, zero)))?;
     Ok(Contour {
         closed: true,
-        start: corner(zero, zero),
+        start: Point::at(zero, zero),
         segs,
     })
-}
-
-/// A straight curve from (`x0`, `y0`) to (`x1`, `y1`).
-fn line(x0: Fx, y0: Fx, x1: Fx, y1: Fx) -> Seg
-    ensures { result ≡ side_in (point x0 y0) (point x1 y1) }
-{
-    Seg {
-        c1: corner(x0, y0),
-        c2: corner(x1, y1),
-        end: corner(x1, y1),
-    }
-}
-
-fn corner(x: Fx, y: Fx) -> Point
-    ensures { result ≡ point x y }
-{
-    Point { x, y }
 }

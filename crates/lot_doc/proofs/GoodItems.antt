@@ -1,6 +1,6 @@
 -- What is proved of each item: where there are no slots, its properties have values in any document, and each list that
 -- it holds is within its limit.
-use Rattle.std.proofs.Common.{◌≡◌, ℕ, List, [], ◌∷◌, refl, sym, ◌∙◌, subst}
+use Rattle.std.proofs.Common.{◌≡◌, ℕ, List, [], ◌∷◌, sym, ◌∙◌, subst}
 use Rattle.std.specs.List.{All}
 use Rattle.std.proofs.lemmas.List.Elements.{All-nil, All-cons, All-same}
 use Rattle.lot_types.specs.declared.color.Color.{Color}
@@ -26,6 +26,7 @@ use Rattle.lot_read.specs.Number.{scalar}
 use Rattle.lot_read.specs.PropertyRows.{needed_property}
 use Rattle.lot_read.specs.Vector.{vector}
 use Rattle.lot_doc.proofs.Only.{RowsGiveOnly, needed_only, object_only}
+use Rattle.lot_doc.proofs.OnlyTracks.{TrackHasValue}
 use Rattle.lot_doc.proofs.OnlyTransform.{EverScalar, EverVector, own_scalar, own_vector, property_rows_only}
 
 -- An item by itself, in a document.
@@ -61,17 +62,17 @@ EverBezier p = (d : Doc) → HasBezier d p
 abbrev pub EverGradient : Prop Ramp → Type 0
 EverGradient p = (d : Doc) → HasGradient d p
 
-own_color : (t : Track Color) → EverColor (Own t)
-own_color t d = refl
+own_color : (t : Track Color) → TrackHasValue t → EverColor (Own t)
+own_color t has d = has
 
-own_bezier : (t : Track Curve) → EverBezier (Own t)
-own_bezier t d = refl
+own_bezier : (t : Track Curve) → TrackHasValue t → EverBezier (Own t)
+own_bezier t has d = has
 
-own_gradient : (t : Track Ramp) → EverGradient (Own t)
-own_gradient t d = refl
+own_gradient : (t : Track Ramp) → TrackHasValue t → EverGradient (Own t)
+own_gradient t has d = has
 
-needed_property_only : {T : Type 0} (P : Prop T → Type 0) (of : SlotKind) (value : Reader T) → ((t : Track T) → P (Own t)) → (name : List ℕ)
-    → RowsGiveOnly P (needed_property of value [] name)
+needed_property_only : {T : Type 0} (P : Prop T → Type 0) (of : SlotKind) (value : Reader T) → ((t : Track T) → TrackHasValue t → P (Own t))
+    → (name : List ℕ) → RowsGiveOnly P (needed_property of value [] name)
 unfolding needed_property
 needed_property_only P of value owns name at m = needed_only name (object_only (property_rows_only P of value owns)) at m
 

@@ -7,6 +7,7 @@ mod Only
 mod OnlyItems
 mod OnlyShapes
 mod OnlyStyles
+mod OnlyTracks
 mod OnlyTransform
 mod Stops
-mod WellFormed
+pub mod WellFormed

@@ -1,5 +1,5 @@
 -- Where there are no slots, each property of a transform is its own, and so has a value in any document.
-use Rattle.std.proofs.Common.{ℕ, ℤ, pos, false, List, [], Option, Some, None, codes, refl}
+use Rattle.std.proofs.Common.{ℕ, ℤ, pos, false, List, [], Option, Some, None, codes}
 use Rattle.std.specs.Bool.{⊤}
 use Rattle.std.specs.Option.{IfSome}
 use Rattle.lot_types.specs.declared.doc.Doc.{Doc}
@@ -27,9 +27,9 @@ use Rattle.lot_read.specs.Position.{position_rows, coordinate_rows, whole_rows, 
 use Rattle.lot_read.specs.Property.{no_expression, slot_found, slot_name, own, by_name, property_rows, property}
 use Rattle.lot_read.specs.Rows.{optional}
 use Rattle.lot_read.specs.SlotNames.{place_of}
-use Rattle.lot_read.specs.Track.{track}
 use Rattle.lot_read.specs.Transform.{constant, origin, hundred_per_cent, full_size, vector_or, scalar_or, position_or_origin, placement_rows, scalar_rows, transform_rows, transform}
 use Rattle.lot_read.specs.Vector.{vector}
+use Rattle.lot_doc.proofs.OnlyTracks.{TrackHasValue, still_has_value, track_only}
 use Rattle.lot_doc.proofs.Only.{GivesOnly, ReadsOnly, RowsGiveOnly, anything, good_only, bad_only, if_only, row_only, any_row_only, on_only, needed_only, optional_only, object_only}
 
 -- No slot is named.
@@ -47,18 +47,19 @@ slot_name_only at j =
     ]
 
 -- A property of which P holds wherever it is a property's own track.
-own_only : {T : Type 0} (P : Prop T → Type 0) (found : Findings (Track T)) → ((t : Track T) → P (Own t)) → GivesOnly P (own found)
-own_only {T} P found owns = any_row_only found (good_only (λ (t : Track T). Own t) owns)
+own_only : {T : Type 0} (P : Prop T → Type 0) {found : Findings (Track T)} → GivesOnly TrackHasValue found
+    → ((t : Track T) → TrackHasValue t → P (Own t)) → GivesOnly P (own found)
+own_only {T} P has owns = row_only has (good_only (λ (t : Track T). Own t) owns)
 
-by_name_only : {T : Type 0} (P : Prop T → Type 0) (kind : SlotKind) (value : Reader T) → ((t : Track T) → P (Own t))
+by_name_only : {T : Type 0} (P : Prop T → Type 0) (kind : SlotKind) (value : Reader T) → ((t : Track T) → TrackHasValue t → P (Own t))
     → (at : List Step) (m : Pairs) (name : Option SlotName) → IfSome name IsNoSlot → GivesOnly P (by_name kind value at m name)
 by_name_only P kind value owns at m (Some (Known slot)) none = absurd none
-by_name_only P kind value owns at m (Some Unknown) none = own_only P (track kind value NoValue at m) owns
-by_name_only P kind value owns at m (Some Unnamed) none = own_only P (track kind value Missing at m) owns
-by_name_only P kind value owns at m None none = own_only P (track kind value Missing at m) owns
+by_name_only P kind value owns at m (Some Unknown) none = own_only P (track_only kind value NoValue at m) owns
+by_name_only P kind value owns at m (Some Unnamed) none = own_only P (track_only kind value Missing at m) owns
+by_name_only P kind value owns at m None none = own_only P (track_only kind value Missing at m) owns
 
-pub property_rows_only : {T : Type 0} (P : Prop T → Type 0) (kind : SlotKind) (value : Reader T) → ((t : Track T) → P (Own t))
-    → RowsGiveOnly P (property_rows kind [] value)
+pub property_rows_only : {T : Type 0} (P : Prop T → Type 0) (kind : SlotKind) (value : Reader T)
+    → ((t : Track T) → TrackHasValue t → P (Own t)) → RowsGiveOnly P (property_rows kind [] value)
 unfolding property_rows
 property_rows_only {T} P kind value owns at m =
     row_only
@@ -75,11 +76,11 @@ EverVector p = (d : Doc) → HasVector d p
 abbrev EverPosition : Position → Type 0
 EverPosition p = (d : Doc) → HasPosition d p
 
-pub own_scalar : (t : Track ℤ) → EverScalar (Own t)
-own_scalar t d = refl
+pub own_scalar : (t : Track ℤ) → TrackHasValue t → EverScalar (Own t)
+own_scalar t has d = has
 
-pub own_vector : (t : Track Point) → EverVector (Own t)
-own_vector t d = refl
+pub own_vector : (t : Track Point) → TrackHasValue t → EverVector (Own t)
+own_vector t has d = has
 
 scalar_only : ReadsOnly EverScalar (property slot_kind.Scalar [] scalar)
 scalar_only = object_only (property_rows_only EverScalar slot_kind.Scalar scalar own_scalar)
@@ -110,15 +111,15 @@ position_rows_only at m =
 -- Transforms.
 vector_or_only : (default : Point) (name : List ℕ) → RowsGiveOnly EverVector (vector_or default [] name)
 unfolding vector_or
-vector_or_only default name at m = optional_only name (constant default) (λ d. refl) vector_only at m
+vector_or_only default name at m = optional_only name (constant default) (λ d. still_has_value default) vector_only at m
 
 pub scalar_or_only : (default : ℤ) (name : List ℕ) → RowsGiveOnly EverScalar (scalar_or default [] name)
 unfolding scalar_or
-scalar_or_only default name at m = optional_only name (constant default) (λ d. refl) scalar_only at m
+scalar_or_only default name at m = optional_only name (constant default) (λ d. still_has_value default) scalar_only at m
 
 position_or_origin_only : (name : List ℕ) → RowsGiveOnly EverPosition (position_or_origin [] name)
 unfolding position_or_origin
-position_or_origin_only name at m = optional_only name (Whole (constant origin)) (λ d. refl) (object_only position_rows_only) at m
+position_or_origin_only name at m = optional_only name (Whole (constant origin)) (λ d. still_has_value origin) (object_only position_rows_only) at m
 
 abbrev RowsHave : {A : Type 0} → Row A → (A → Type 0) → Type 0
 RowsHave row P = RowsGiveOnly P row

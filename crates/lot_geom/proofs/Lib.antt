@@ -1,6 +1,7 @@
 pub mod Chords
 pub mod Measured
 pub mod Parameters
+pub mod Products
 pub mod Limits
 pub mod Sums
 pub mod Translations

@@ -1,6 +1,7 @@
 -- Filters over lists whose items all pass, or none of them.
-use Rattle.std.proofs.Common.{◌≡◌, List, [], ◌∷◌, ◌++◌, map, refl, ap, sym, ◌∙◌, subst, Bool, true, false, inl, inr}
+use Rattle.std.proofs.Common.{◌≡◌, List, [], ◌∷◌, ◌++◌, map, reverse, refl, ap, sym, ◌∙◌, subst, Bool, true, false, inl, inr}
 use Rattle.std.proofs.lemmas.Bool.{cases_Bool}
+use Rattle.std.proofs.lemmas.List.{reverse-append}
 use Rattle.std.proofs.lemmas.List.Elements.{All-nil, All-cons}
 use Rattle.std.specs.List.{filter, All}
 use Rattle.std.specs.Prelude.{cond}
@@ -92,6 +93,12 @@ pub Each-mapped : {X Y : Type 0} (P : X → Type 0) (Q : Y → Type 0) (f : Y �
     (ys : List Y) → Each Q ys → Each P (map f ys)
 Each-mapped P Q f h [] k = tt
 Each-mapped P Q f h (y ∷ ys) k = (h y k.0, Each-mapped P Q f h ys k.1)
+
+pub Each-reverse : {X : Type 0} (P : X → Type 0) (xs : List X) → Each P xs → Each P (reverse xs)
+Each-reverse P [] h = tt
+Each-reverse P (x ∷ xs) h =
+    subst (Each P) (sym (reverse-append (x ∷ []) xs))
+    (Each-append P (reverse xs) (x ∷ []) (Each-reverse P xs h.1) (h.0, tt))
 
 pub all-from : {X : Type 0} (P : X → Type 0) (xs : List X) → Each P xs → All P xs
 all-from P [] h = All-nil P

@@ -12,6 +12,7 @@ pub mod Lookup
 pub mod Order
 pub mod Paints
 pub mod Places
+pub mod Present
 pub mod Ranges
 pub mod Steps
 pub mod Styles

@@ -11,9 +11,9 @@ use Rattle.lot_group.specs.Collected.{LeadsToStyle}
 use Rattle.lot_group.specs.Live.{Entry, inside, within, live, styles}
 use Rattle.lot_group.specs.Painting.{painting, paintings_of}
 use Rattle.lot_group.specs.Place.{items_of, items_of_found, item_at}
-use Rattle.lot_group.proofs.Filters.{Each, Each-append, Each-both, Each-filter, Each-mapped, filter_passed}
+use Rattle.lot_group.proofs.Filters.{Each, Each-append, Each-both, Each-filter, Each-mapped, Each-weaker, filter_passed}
 use Rattle.lot_group.proofs.Items.{items-ind, inside-live, held-all, live-nil}
-use Rattle.lot_group.proofs.Limits.{All-parts}
+use Rattle.lot_group.proofs.Limits.{All-parts, OfAll}
 use Rattle.lot_group.proofs.Live.{self_at, live-push, hidden_at, shown_at, live-below, live-nonempty}
 use Rattle.lot_group.proofs.Places.{Below, NonEmpty}
 
@@ -33,7 +33,7 @@ each_more Q xs x old own new =
           (own, subst (λ (z : List Entry). Each Q (map (within (length xs)) z)) (sym (inside-live x)) new))
     ]
 
--- What holds of all items of a list holds of the live ones.
+-- What holds of all items of a list holds of the live ones, and of all that they hold.
 all_items-more : (xs : List Item) (x : Item) → all_items (xs ++ x ∷ []) ≡ all_items xs ++ (x ∷ held x)
 unfolding all_items
 all_items-more [] x = append-nil (x ∷ held x)
@@ -41,15 +41,19 @@ all_items-more (y ∷ xs) x =
     ap (λ (z : List Item). y ∷ (held y ++ z)) (all_items-more xs x) ∙
     ap (λ (z : List Item). y ∷ z) (sym (append_assoc (held y) (all_items xs) (x ∷ held x)))
 
-live-all : (P : Item → Type 0) (xs : List Item) → All P (all_items xs) → Each (λ e. P e.item) (live xs)
-live-all P =
-    items-ind (λ xs. All P (all_items xs) → Each (λ e. P e.item) (live xs))
-    (λ h. subst (Each (λ e. P e.item)) (sym live-nil) tt)
+pub live-of_all : (P : Item → Type 0) (xs : List Item) → All P (all_items xs) → Each (λ e. OfAll P e.item) (live xs)
+live-of_all P =
+    items-ind (λ xs. All P (all_items xs) → Each (λ e. OfAll P e.item) (live xs))
+    (λ h. subst (Each (λ e. OfAll P e.item)) (sym live-nil) tt)
     (λ xs x q r h.
     let parts = All-parts P (all_items xs) (x ∷ held x) (subst (All P) (all_items-more xs x) h) in
     let within_x = subst (All P) (held-all x) (All-tail P x (held x) parts.1) in
-    each_more (λ e. P e.item) xs x (r parts.0) (All-head P x (held x) parts.1)
-    (Each-mapped (λ e. P e.item) (λ e. P e.item) (within (length xs)) (λ e p. p) (live (items_of x)) (q within_x)))
+    each_more (λ e. OfAll P e.item) xs x (r parts.0) (All-head P x (held x) parts.1, within_x)
+    (Each-mapped (λ e. OfAll P e.item) (λ e. OfAll P e.item) (within (length xs)) (λ e p. p) (live (items_of x))
+    (q within_x)))
+
+pub live-all : (P : Item → Type 0) (xs : List Item) → All P (all_items xs) → Each (λ e. P e.item) (live xs)
+live-all P xs h = Each-weaker (λ e. OfAll P e.item) (λ e. P e.item) (λ e p. p.0) (live xs) (live-of_all P xs h)
 
 -- The place of a live item leads to it.
 slice_get-before : {X : Type 0} (xs ys : List X) (k : ℕ) → k < length xs → slice_get (xs ++ ys) k ≡ slice_get xs k

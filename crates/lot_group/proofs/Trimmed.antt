@@ -1,5 +1,5 @@
 -- What a trim leaves of outlines that all have values, and that it leaves as many.
-use Rattle.std.proofs.Common.{◌≡◌, ◌∙◌, ℕ, ℤ, ◌==◌, List, [], ◌∷◌, map, length, Option, Some, None, Bool, true, false, ap, sym, refl, suc, if◌then◌else◌}
+use Rattle.std.proofs.Common.{◌≡◌, ◌∙◌, ℕ, ℤ, ◌==◌, List, map, length, Option, Some, None, Bool, true, false, ap, sym, refl, if◌then◌else◌}
 use Rattle.std.proofs.lemmas.List.{length-map}
 use Rattle.std.specs.Prelude.{option_map, option_and_then}
 use Rattle.lot_prop.specs.Slots.{scalar_value}
@@ -12,8 +12,8 @@ use Rattle.lot_types.specs.declared.item.Item.TheOpen as item
 use Rattle.lot_types.specs.declared.item.Item.TheVariants.{Trim, outs-Trim}
 use Rattle.lot_types.specs.declared.outline.Outline.{Outline}
 use Rattle.lot_types.specs.declared.prop.Prop.{Prop}
-use Rattle.lot_types.specs.Options.{put_before, all_present}
-use Rattle.lot_types.proofs.Present.{all_are_present}
+use Rattle.lot_types.specs.Options.{all_present}
+use Rattle.lot_types.proofs.Present.{all_are_present, none_missing}
 use Rattle.lot_group.specs.Outlines.{in_place_of, trimmed}
 use Rattle.lot_group.specs.Trim.{cut_with, trimmed_by, trimmed_in, trim_value}
 
@@ -52,23 +52,8 @@ value_in-length d u (item.Trim hidden s z o m) os left e =
     cut-length m os left (cut_with (scalar_value d s u) (scalar_value d z u) (scalar_value d o u)) e
 value_in-length d u (item.Place hidden ks) os left e = absurd (cc)
 
--- A list that begins with a value has the others too.
-record BeginsWith (x : Outline) (p : Option (List Outline)) (xs : List Outline) : Type 0 where
-  rest : List Outline
-  others : p ≡ Some rest
-  all : xs ≡ x ∷ rest
-
-begins : (x : Outline) (p : Option (List Outline)) (xs : List Outline) → put_before (Some x) p ≡ Some xs →
-    BeginsWith x p xs
-begins x None xs e = absurd (cc)
-begins x (Some rest) xs e = let same : x ∷ rest ≡ xs = cc in record { rest = rest; others = refl; all = sym same }
-
 present-length : (os : List (Option Outline)) (xs : List Outline) → all_present os ≡ Some xs → length xs ≡ length os
-present-length [] xs e = let none : [] ≡ xs = cc in ap length (sym none)
-present-length (None ∷ os) xs e = absurd (cc)
-present-length (Some x ∷ os) xs e =
-    let b = begins x (all_present os) xs e in
-    ap length b.all ∙ ap (λ (n : ℕ). suc n) (present-length os b.rest b.others)
+present-length os xs e = sym (length-map xs Some) ∙ ap length (none_missing os xs e)
 
 left-length : (os : List (Option Outline)) (left : Option (List Outline)) →
     ((xs : List Outline) → left ≡ Some xs → length xs ≡ length os) → length (in_place_of os left) ≡ length os

@@ -2,3 +2,4 @@ mod Backwards
 mod Corners
 mod Leaves
 mod Neighbours
+pub mod Present

@@ -4,10 +4,6 @@ use Rattle.lot_types.specs.declared.contour.Contour.{Contour}
 use Rattle.lot_types.specs.declared.point.Point.{Point}
 use Rattle.lot_types.specs.declared.seg.Seg.{Seg}
 
--- The straight segment from one point to another.
-abbrev pub straight : Point → Point → Seg
-straight from to = record { c1 = from; c2 = to; end = to }
-
 -- The segment by two control points to an end.
 abbrev pub curved : Point → Point → Point → Seg
 curved by and to = record { c1 = by; c2 = and; end = to }

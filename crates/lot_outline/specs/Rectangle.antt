@@ -7,10 +7,11 @@ use Rattle.lot_types.specs.declared.contour.Contour.{Contour}
 use Rattle.lot_types.specs.declared.point.Point.{Point}
 use Rattle.lot_types.specs.declared.seg.Seg.{Seg}
 use Rattle.lot_types.specs.Points.{point}
+use Rattle.lot_types.specs.Segments.{straight}
 use Rattle.lot_types.specs.Handles.{nearest_in}
 use Rattle.lot_outline.specs.declared.sides.Sides.{Sides}
 use Rattle.lot_outline.specs.Arc.{arc_handle}
-use Rattle.lot_outline.specs.Closed.{straight, curved, closed}
+use Rattle.lot_outline.specs.Closed.{curved, closed}
 use Rattle.lot_outline.specs.Number.{minus, half}
 use Rattle.lot_outline.specs.Sides.{sides_around, inset}
 

@@ -1,9 +1,8 @@
 //! Closed contours and their segments.
 ghost use Rattle.std.specs.Prelude.{◌≡◌, IfOk};
-ghost use Rattle.lot_types.specs.Points.{point};
-ghost use Rattle.lot_outline.specs.Closed.{straight as straight_in, curved as curved_in, closed as closed_in};
+ghost use Rattle.lot_outline.specs.Closed.{curved as curved_in, closed as closed_in};
 
-use lot_types::{Contour, Fx, Memory, Point, Seg, Seq};
+use lot_types::{Contour, Memory, Point, Seg, Seq};
 use std::alloc::Global;
 
 /// The closed contour of these segments. Want of memory is the one refusal.
@@ -27,25 +26,6 @@ fn list_of(alloc: Global, segs: &[Seg]) -> Result<Seq<Seg>, Memory>
         made.push(*seg)?;
     }
     Ok(made)
-}
-
-/// The point of two coordinates.
-pub(crate) fn at(x: Fx, y: Fx) -> Point
-    ensures { result ≡ point x y }
-{
-    Point { x, y }
-}
-
-/// The straight segment from one point to another.
-pub(crate) fn line(from: Point, to: Point) -> Seg
-    ensures { result ≡ straight_in from to }
-{
-    let c2 = to;
-    Seg {
-        c1: from,
-        c2,
-        end: to,
-    }
 }
 
 /// The segment by two control points to an end.

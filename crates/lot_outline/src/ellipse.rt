@@ -3,7 +3,7 @@ ghost use Rattle.std.specs.Prelude.{◌≡◌, IfOk};
 ghost use Rattle.lot_outline.specs.Ellipse.{ellipse as ellipse_in, quarters as quarters_in};
 
 use crate::arc::arc_handle;
-use crate::closed::{at, closed, curve};
+use crate::closed::{closed, curve};
 use crate::number::half;
 use crate::sides::Sides;
 use lot_types::{Contour, Memory, Point, Seg};
@@ -20,7 +20,11 @@ pub(crate) fn ellipse(alloc: Global, p: Point, s: Point) -> Result<Contour, Memo
     let (rx, ry) = (half(s.x), half(s.y));
     let sides = Sides::around(&p, rx, ry);
     let handles = Sides::around(&p, arc_handle(rx), arc_handle(ry));
-    closed(alloc, at(p.x, sides.top), &quarters(&p, &sides, &handles))
+    closed(
+        alloc,
+        Point::at(p.x, sides.top),
+        &quarters(&p, &sides, &handles),
+    )
 }
 
 /// Four quarters about the center `p` within the sides `b`, clockwise from the top, by control points on the lines
@@ -30,13 +34,25 @@ fn quarters(p: &Point, b: &Sides, h: &Sides) -> [Seg; 4]
     ensures { result ≡ quarters_in p.now b.now h.now }
 {
     [
-        curve(at(h.right, b.top), at(b.right, h.top), at(b.right, p.y)),
         curve(
-            at(b.right, h.bottom),
-            at(h.right, b.bottom),
-            at(p.x, b.bottom),
+            Point::at(h.right, b.top),
+            Point::at(b.right, h.top),
+            Point::at(b.right, p.y),
         ),
-        curve(at(h.left, b.bottom), at(b.left, h.bottom), at(b.left, p.y)),
-        curve(at(b.left, h.top), at(h.left, b.top), at(p.x, b.top)),
+        curve(
+            Point::at(b.right, h.bottom),
+            Point::at(h.right, b.bottom),
+            Point::at(p.x, b.bottom),
+        ),
+        curve(
+            Point::at(h.left, b.bottom),
+            Point::at(b.left, h.bottom),
+            Point::at(b.left, p.y),
+        ),
+        curve(
+            Point::at(b.left, h.top),
+            Point::at(h.left, b.top),
+            Point::at(p.x, b.top),
+        ),
     ]
 }

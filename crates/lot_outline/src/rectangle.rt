@@ -3,7 +3,7 @@ ghost use Rattle.std.specs.Prelude.{◌≡◌, IfOk};
 ghost use Rattle.lot_outline.specs.Rectangle.{rectangle as rectangle_in, corner_radius as corner_radius_in, sharp as sharp_in, sharp_segs as sharp_segs_in, rounded as rounded_in, rounded_segs as rounded_segs_in};
 
 use crate::arc::arc_handle;
-use crate::closed::{at, closed, curve, line};
+use crate::closed::{closed, curve};
 use crate::number::{half, minus, smaller};
 use crate::sides::Sides;
 use lot_types::{Contour, Fx, Memory, Point, Seg};
@@ -44,7 +44,7 @@ fn corner_radius(s: Point, r: Fx) -> Fx
 fn sharp(alloc: Global, sides: &Sides) -> Result<Contour, Memory>
     ensures { IfOk result (λ made. made ≡ sharp_in sides.now) }
 {
-    closed(alloc, at(sides.right, sides.top), &sharp_segs(sides))
+    closed(alloc, Point::at(sides.right, sides.top), &sharp_segs(sides))
 }
 
 /// The rectangle with these sides and corners of a radius above 0.
@@ -55,7 +55,7 @@ fn rounded(alloc: Global, sides: &Sides, radius: Fx) -> Result<Contour, Memory>
     let handles = sides.inset(minus(radius, arc_handle(radius)));
     closed(
         alloc,
-        at(sides.right, corners.top),
+        Point::at(sides.right, corners.top),
         &rounded_segs(sides, &corners, &handles),
     )
 }
@@ -65,10 +65,10 @@ fn sharp_segs(b: &Sides) -> [Seg; 4]
     ensures { result ≡ sharp_segs_in b.now }
 {
     [
-        line(at(b.right, b.top), at(b.right, b.bottom)),
-        line(at(b.right, b.bottom), at(b.left, b.bottom)),
-        line(at(b.left, b.bottom), at(b.left, b.top)),
-        line(at(b.left, b.top), at(b.right, b.top)),
+        Seg::straight(Point::at(b.right, b.top), Point::at(b.right, b.bottom)),
+        Seg::straight(Point::at(b.right, b.bottom), Point::at(b.left, b.bottom)),
+        Seg::straight(Point::at(b.left, b.bottom), Point::at(b.left, b.top)),
+        Seg::straight(Point::at(b.left, b.top), Point::at(b.right, b.top)),
     ]
 }
 
@@ -79,21 +79,29 @@ fn rounded_segs(b: &Sides, i: &Sides, h: &Sides) -> [Seg; 8]
     ensures { result ≡ rounded_segs_in b.now i.now h.now }
 {
     [
-        line(at(b.right, i.top), at(b.right, i.bottom)),
+        Seg::straight(Point::at(b.right, i.top), Point::at(b.right, i.bottom)),
         curve(
-            at(b.right, h.bottom),
-            at(h.right, b.bottom),
-            at(i.right, b.bottom),
+            Point::at(b.right, h.bottom),
+            Point::at(h.right, b.bottom),
+            Point::at(i.right, b.bottom),
         ),
-        line(at(i.right, b.bottom), at(i.left, b.bottom)),
+        Seg::straight(Point::at(i.right, b.bottom), Point::at(i.left, b.bottom)),
         curve(
-            at(h.left, b.bottom),
-            at(b.left, h.bottom),
-            at(b.left, i.bottom),
+            Point::at(h.left, b.bottom),
+            Point::at(b.left, h.bottom),
+            Point::at(b.left, i.bottom),
         ),
-        line(at(b.left, i.bottom), at(b.left, i.top)),
-        curve(at(b.left, h.top), at(h.left, b.top), at(i.left, b.top)),
-        line(at(i.left, b.top), at(i.right, b.top)),
-        curve(at(h.right, b.top), at(b.right, h.top), at(b.right, i.top)),
+        Seg::straight(Point::at(b.left, i.bottom), Point::at(b.left, i.top)),
+        curve(
+            Point::at(b.left, h.top),
+            Point::at(h.left, b.top),
+            Point::at(i.left, b.top),
+        ),
+        Seg::straight(Point::at(i.left, b.top), Point::at(i.right, b.top)),
+        curve(
+            Point::at(h.right, b.top),
+            Point::at(b.right, h.top),
+            Point::at(b.right, i.top),
+        ),
     ]
 }

@@ -3,6 +3,7 @@ pub mod Lengths
 pub mod MergeSteps
 pub mod Merging
 pub mod Order
+pub mod Present
 pub mod Raised
 pub mod Reached
 pub mod Sorting

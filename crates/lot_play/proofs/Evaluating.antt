@@ -2,13 +2,11 @@
 use Rattle.std.proofs.Common.{◌≡◌, ℕ, ◌+◌, ◌≤◌, List, [], ◌∷◌, Option, None, Some, refl, sym, ap, ◌∙◌, subst, arith}
 use Rattle.lot_json.specs.declared.tree.json.Json.{Json}
 use Rattle.lot_json.specs.Grammar.{JsonText}
-use Rattle.lot_json.specs.Viable.{IsJsonText}
 use Rattle.lot_play.specs.declared.task.Task.{Task}
 use Rattle.lot_play.specs.Arguments.{Arguments, AskFor, AskForNothing, AskOnlyFor}
 use Rattle.lot_play.specs.Evaluations.{most_evaluated, EvaluatesTree, EvaluatesOnce}
 use Rattle.lot_play.specs.Judged.{judged}
 use Rattle.lot_types.specs.declared.doc.Doc.{Doc}
-use Rattle.lot_types.specs.declared.fault.Fault.{Fault}
 use Rattle.lot_types.specs.Refusals.{first}
 
 -- Where nothing is evaluated.

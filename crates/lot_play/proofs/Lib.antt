@@ -1,3 +1,4 @@
+pub mod Answered
 pub mod ReadLoop
 pub mod WriteLoop
 pub mod Evaluating

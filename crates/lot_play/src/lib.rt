@@ -15,7 +15,7 @@ mod status;
 mod task;
 mod writing;
 
-pub use faultless::faultless_document_has_value;
+pub use faultless::{accepted_document_has_answers, faultless_document_has_value};
 pub use outside::{Folder, RealFolder, RealSink, Sink, SinkRefusal, SureFolder, SureSink};
 pub use player::run;
 pub use status::Status;

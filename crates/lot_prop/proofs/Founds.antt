@@ -8,7 +8,7 @@ use Rattle.lot_prop.specs.Found.{IsHeld, IsBetween, IsCount}
 use Rattle.lot_prop.proofs.InForceAt.{after, after_last, after_other, in_force_none, in_force_at}
 use Rattle.lot_prop.proofs.Timeline.{in_order, out_of_order}
 
-abbrev value_by : {A : Type 0} → Between A → ℤ → List (Key A) → Option (KeyAndNext A) → Option A
+abbrev pub value_by : {A : Type 0} → Between A → ℤ → List (Key A) → Option (KeyAndNext A) → Option A
 value_by between t keys found = elim found [
   | None ↦ value_of_key (first_of keys)
   | Some found ↦ Some (from_key between t found.key found.next)

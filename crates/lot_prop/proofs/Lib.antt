@@ -2,3 +2,4 @@ mod LeastSteps
 mod InForceAt
 mod Timeline
 mod Founds
+pub mod Present

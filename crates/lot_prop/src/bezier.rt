@@ -1,7 +1,7 @@
 //! Paths over time.
-ghost use Rattle.std.specs.Prelude.{◌≡◌, Some, IsSome, IfOk, length};
+ghost use Rattle.std.specs.Prelude.{◌≡◌, Some, IfOk, length};
 ghost use Rattle.lot_prop.specs.Slots.{bezier_value};
-ghost use Rattle.lot_types.specs.Slots.{bezier_in, track_of};
+ghost use Rattle.lot_types.specs.Slots.{HasBezier};
 ghost use Rattle.lot_prop.specs.Value.{bezier_between, points_between as points_in, track_value};
 
 use crate::found::Found;
@@ -14,9 +14,9 @@ use std::alloc::Global;
 ///
 /// A slot that the property names has to be there and to be a path. Two paths of different numbers of vertices are not
 /// joined: the first is held.
-#[tactic(auto, unfolding(crate::specs::Slots::bezier_value))]
+#[tactic(auto, unfolding(crate::specs::Slots::bezier_value, lot_types::specs::Slots::HasValue))]
 pub fn value_bezier(alloc: Global, d: &Doc, p: &Prop<Bezier>, t: Time) -> Result<Bezier, Memory>
-    requires { IsSome (track_of bezier_in d.now p.now) }
+    requires { HasBezier d.now p.now }
     ensures { IfOk result (λ x. bezier_value d.now p.now t ≡ Some x) }
 {
     match p {

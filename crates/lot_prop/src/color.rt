@@ -1,7 +1,7 @@
 //! Colors over time.
-ghost use Rattle.std.specs.Prelude.{◌≡◌, Some, IsSome};
+ghost use Rattle.std.specs.Prelude.{◌≡◌, Some};
 ghost use Rattle.lot_prop.specs.Slots.{color_value};
-ghost use Rattle.lot_types.specs.Slots.{color_in, track_of};
+ghost use Rattle.lot_types.specs.Slots.{HasColor};
 ghost use Rattle.lot_prop.specs.Value.{color_between, track_value};
 
 use crate::found::Found;
@@ -12,9 +12,9 @@ use lot_types::{Color, Doc, Prop, SlotValue, Time, Track};
 /// component may be below 0 or above 1.
 ///
 /// A slot that the property names has to be there and to be a color. It takes no memory.
-#[tactic(auto, unfolding(crate::specs::Slots::color_value))]
+#[tactic(auto, unfolding(crate::specs::Slots::color_value, lot_types::specs::Slots::HasValue))]
 pub fn value_color(d: &Doc, p: &Prop<Color>, t: Time) -> Color
-    requires { IsSome (track_of color_in d.now p.now) }
+    requires { HasColor d.now p.now }
     ensures { color_value d.now p.now t ≡ Some result }
 {
     match p {

@@ -1,7 +1,7 @@
 //! Gradients over time.
-ghost use Rattle.std.specs.Prelude.{◌≡◌, Some, IsSome, IfOk, length};
+ghost use Rattle.std.specs.Prelude.{◌≡◌, Some, IfOk, length};
 ghost use Rattle.lot_prop.specs.Slots.{gradient_value};
-ghost use Rattle.lot_types.specs.Slots.{gradient_in, track_of};
+ghost use Rattle.lot_types.specs.Slots.{HasGradient};
 ghost use Rattle.lot_prop.specs.Value.{gradient_between, numbers_between as numbers_in, track_value};
 
 use crate::found::Found;
@@ -14,14 +14,14 @@ use std::alloc::Global;
 ///
 /// A slot that the property names has to be there and to be a gradient. Two gradients of different numbers of numbers
 /// are not joined: the first is held.
-#[tactic(auto, unfolding(crate::specs::Slots::gradient_value))]
+#[tactic(auto, unfolding(crate::specs::Slots::gradient_value, lot_types::specs::Slots::HasValue))]
 pub fn value_gradient(
     alloc: Global,
     d: &Doc,
     p: &Prop<Gradient>,
     t: Time,
 ) -> Result<Gradient, Memory>
-    requires { IsSome (track_of gradient_in d.now p.now) }
+    requires { HasGradient d.now p.now }
     ensures { IfOk result (λ x. gradient_value d.now p.now t ≡ Some x) }
 {
     match p {

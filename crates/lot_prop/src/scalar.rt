@@ -1,7 +1,7 @@
 //! Scalars over time.
-ghost use Rattle.std.specs.Prelude.{◌≡◌, Some, IsSome};
+ghost use Rattle.std.specs.Prelude.{◌≡◌, Some};
 ghost use Rattle.lot_prop.specs.Slots.{scalar_value};
-ghost use Rattle.lot_types.specs.Slots.{scalar_in, track_of};
+ghost use Rattle.lot_types.specs.Slots.{HasScalar};
 ghost use Rattle.lot_prop.specs.Value.{scalar_between, track_value};
 
 use crate::found::Found;
@@ -11,9 +11,9 @@ use lot_types::{Doc, Fx, Prop, SlotValue, Time, Track};
 /// The value of a scalar property of a document at a time, in millionths, limited to the range.
 ///
 /// A slot that the property names has to be there and to be a scalar. It takes no memory.
-#[tactic(auto, unfolding(crate::specs::Slots::scalar_value))]
+#[tactic(auto, unfolding(crate::specs::Slots::scalar_value, lot_types::specs::Slots::HasValue))]
 pub fn value_scalar(d: &Doc, p: &Prop<Fx>, t: Time) -> Fx
-    requires { IsSome (track_of scalar_in d.now p.now) }
+    requires { HasScalar d.now p.now }
     ensures { scalar_value d.now p.now t ≡ Some result }
 {
     match p {

@@ -1,7 +1,7 @@
 //! Vectors over time.
-ghost use Rattle.std.specs.Prelude.{◌≡◌, Some, IsSome};
+ghost use Rattle.std.specs.Prelude.{◌≡◌, Some};
 ghost use Rattle.lot_prop.specs.Slots.{vector_value};
-ghost use Rattle.lot_types.specs.Slots.{vector_in, track_of};
+ghost use Rattle.lot_types.specs.Slots.{HasVector};
 ghost use Rattle.lot_prop.specs.Value.{vector_between, track_value};
 
 use crate::found::Found;
@@ -13,9 +13,9 @@ use lot_types::{Doc, Point, Prop, SlotValue, Time, Track};
 /// component of the easing says.
 ///
 /// A slot that the property names has to be there and to be a vector. It takes no memory.
-#[tactic(auto, unfolding(crate::specs::Slots::vector_value))]
+#[tactic(auto, unfolding(crate::specs::Slots::vector_value, lot_types::specs::Slots::HasValue))]
 pub fn value_vector(d: &Doc, p: &Prop<Point>, t: Time) -> Point
-    requires { IsSome (track_of vector_in d.now p.now) }
+    requires { HasVector d.now p.now }
     ensures { vector_value d.now p.now t ≡ Some result }
 {
     match p {

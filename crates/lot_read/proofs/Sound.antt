@@ -13,7 +13,7 @@ use Rattle.lot_read.specs.Lists.{each, at_most, list, first_item, value_or_first
 use Rattle.lot_read.specs.Rows.{needed, optional, some, maybe, unbuilt, object}
 use Rattle.lot_read.specs.Sound.{IsSound, ReadsSoundly, RowsAreSound}
 
-both_none : (xs ys : List Fault) → xs ++ ys ≡ [] → (xs ≡ []) × (ys ≡ [])
+pub both_none : (xs ys : List Fault) → xs ++ ys ≡ [] → (xs ≡ []) × (ys ≡ [])
 both_none [] ys e = (refl, e)
 both_none (x ∷ xs) ys e = absurd (cc)
 

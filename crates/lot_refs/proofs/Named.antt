@@ -1,10 +1,13 @@
 -- The layers that numbers name.
 use Rattle.std.proofs.Common.{◌≡◌, ℕ, ℤ, zero, suc, ◌+◌, ◌<◌, cond, Bool, true, false, List, [], ◌∷◌, map, length, get_or, refl, arith, Option, Some, None}
-use Rattle.std.specs.Option.{option_and_then}
+use Rattle.std.specs.List.{All}
+use Rattle.std.specs.Option.{option_and_then, IfSome}
 use Rattle.std.proofs.lemmas.List.{length-map}
+use Rattle.std.proofs.lemmas.List.Elements.{All-nil, All-cons}
 use Rattle.std.proofs.lemmas.Option.{none-some, same_Some}
 use Rattle.lot_types.specs.declared.layer.Layer.{Layer}
-use Rattle.lot_refs.specs.Parents.{is_numbered, find_from, find_layer, named, parents, parent_of}
+use Rattle.lot_refs.specs.Links.{Links, next, trail}
+use Rattle.lot_refs.specs.Parents.{is_numbered, find_from, find_layer, named, parents, parent_of, ancestors_of}
 
 pub named_same : (layers : List Layer) (f : ℤ → Option ℕ) (number : Option ℤ)
     → ((n : ℤ) → f n ≡ find_layer layers n) → option_and_then f number ≡ named layers number
@@ -39,3 +42,21 @@ within_parents layers (x ∷ xs) (suc l) k h = within_parents layers xs l k h
 
 pub parent_within : (layers : List Layer) (l k : ℕ) → parent_of layers l ≡ Some k → k < length (parents layers)
 parent_within layers l k h = omega (arith, within_parents layers layers l k h, length_parents layers)
+
+if_some : {X : Type 0} (P : X → Type 0) (o : Option X) → ((x : X) → o ≡ Some x → P x) → IfSome o P
+if_some P None h = tt
+if_some P (Some x) h = h x refl
+
+trail_within : (links : Links) (m n : ℕ) (at : Option ℕ) → ((l k : ℕ) → get_or links l None ≡ Some k → k < m) → IfSome at (λ k. k < m)
+    → All (λ k. k < m) (trail links n at)
+trail_within links m zero at leads h = All-nil (λ k. k < m)
+trail_within links m (suc n) None leads h = All-nil (λ k. k < m)
+trail_within links m (suc n) (Some l) leads h =
+    All-cons (λ k. k < m) l (trail links n (next links (Some l))) h
+    (trail_within links m n (next links (Some l)) leads (if_some (λ k. k < m) (next links (Some l)) (leads l)))
+
+-- All that the chain of parents leads to is a layer of the composition.
+pub ancestors_within : (layers : List Layer) (l : ℕ) → All (λ k. k < length layers) (ancestors_of layers l)
+ancestors_within layers l =
+    trail_within (parents layers) (length layers) (length (parents layers)) (next (parents layers) (Some l))
+    (within_parents layers layers) (if_some (λ k. k < length layers) (next (parents layers) (Some l)) (within_parents layers layers l))

@@ -56,6 +56,7 @@ fn document(alloc: Global, slots: Seq<Slot>) -> Doc
 }
 
 #[test]
+#[tactic(auto, unfolding(lot_types::specs::Slots::HasValue))]
 fn a_property_takes_the_value_of_its_slot(rt: HostRuntime) -> Result<(), Fail> {
     let alloc = rt.alloc();
     let mut slots = Seq::new(alloc);

@@ -1,3 +1,4 @@
+pub mod Elements
 pub mod Held
 pub mod ThreeLimited
 pub mod Present

@@ -12,6 +12,7 @@ pub mod PropertyValues
 pub mod Ramp
 pub mod Range
 pub mod Refusals
+pub mod Segments
 pub mod Slots
 pub mod WellFormed
 pub mod formers

@@ -1,9 +1,10 @@
 -- The track of a property: its own, or that of its slot. A property whose slot is not there or is of another kind has
 -- none.
-use Rattle.std.specs.Prelude.{ℤ, Option, Some, None, IsSome, slice_get}
+use Rattle.std.specs.Prelude.{ℤ, ◌<◌, Option, Some, None, length, slice_get}
 use Rattle.lot_types.specs.declared.point.Point.{Point}
 use Rattle.lot_types.specs.declared.color.Color.{Color}
 use Rattle.lot_types.specs.declared.prop.Track.{Track}
+use Rattle.lot_types.specs.declared.prop.Track.TheVariants.{Still, Moving}
 use Rattle.lot_types.specs.declared.prop.Position.{Position}
 use Rattle.lot_types.specs.declared.prop.Position.TheVariants.{Whole, Split}
 use Rattle.lot_types.specs.declared.prop.Prop.{Prop}
@@ -65,21 +66,28 @@ abbrev pub track_of : {A : Type 0} → (SlotValue → Option (Track A)) → Doc 
 track_of track_in d (Own track) = Some track
 track_of track_in d (Slot s) = of_slot track_in (slice_get d.slots s)
 
--- The slot that a property names is there and has its kind, if it names one.
+-- The track is there, and it has a keyframe where it moves.
+unfoldable pub HasValue : {A : Type 0} → Option (Track A) → Type 0
+HasValue None = ⊥
+HasValue (Some (Still x)) = Unit {0}
+HasValue (Some (Moving keys)) = 0 < length keys
+
+-- The property has a value in the document at every time: the slot that it names is there and has its kind, if it names
+-- one, and there is a keyframe where it moves.
 abbrev pub HasScalar : Doc → Prop ℤ → Type 0
-HasScalar d p = IsSome (track_of scalar_in d p)
+HasScalar d p = HasValue (track_of scalar_in d p)
 
 abbrev pub HasVector : Doc → Prop Point → Type 0
-HasVector d p = IsSome (track_of vector_in d p)
+HasVector d p = HasValue (track_of vector_in d p)
 
 abbrev pub HasColor : Doc → Prop Color → Type 0
-HasColor d p = IsSome (track_of color_in d p)
+HasColor d p = HasValue (track_of color_in d p)
 
 abbrev pub HasBezier : Doc → Prop Curve → Type 0
-HasBezier d p = IsSome (track_of bezier_in d p)
+HasBezier d p = HasValue (track_of bezier_in d p)
 
 abbrev pub HasGradient : Doc → Prop Ramp → Type 0
-HasGradient d p = IsSome (track_of gradient_in d p)
+HasGradient d p = HasValue (track_of gradient_in d p)
 
 abbrev pub HasPosition : Doc → Position → Type 0
 HasPosition d (Whole p) = HasVector d p

@@ -1,4 +1,6 @@
 //! Points.
+ghost use Rattle.std.specs.Prelude.{◌≡◌};
+ghost use Rattle.lot_types.specs.Points.{point};
 
 use crate::Fx;
 
@@ -8,4 +10,13 @@ use crate::Fx;
 pub struct Point {
     pub x: Fx,
     pub y: Fx,
+}
+
+impl Point {
+    /// The point of two coordinates.
+    pub fn at(x: Fx, y: Fx) -> Point
+        ensures { result ≡ point x y }
+    {
+        Point { x, y }
+    }
 }

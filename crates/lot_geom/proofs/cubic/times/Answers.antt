@@ -1,15 +1,12 @@
-use Rattle.std.proofs.Common.{◌≡◌, ◌≤◌, ◌*◌, ◌*ℤ◌, ◌^◌, ℕ, ℤ, pos, to_z, unsigned_abs, ap, subst, sym, mul-le-mul, FitsSigned, w64, arith, rules}
+use Rattle.std.proofs.Common.{◌≡◌, ◌≤◌, ◌*ℤ◌, ◌^◌, ℕ, ℤ, pos, to_z, unsigned_abs, ap, FitsSigned, w64, arith, rules}
 use Rattle.std.specs.Int.{w128}
-use Rattle.std.proofs.lemmas.Int.{fits_signed_mul, to_z-of_z, to_z_pos, unsigned_abs-mul}
+use Rattle.std.proofs.lemmas.Int.{fits_signed_mul, to_z-of_z, to_z_pos}
+use Rattle.lot_geom.proofs.Products.{product_small}
 use Rattle.lot_geom.proofs.cubic.times.Goals as goal
 
--- The product of a number in range and a weight fits, and is small.
+-- The product of a number in range and a weight fits.
 fits : (x : ℤ) (weight : ℕ) → unsigned_abs x ≤ 10 ^ 13 → weight ≤ 2 ^ 50 → FitsSigned w128 (x *ℤ pos weight)
 fits x weight p q = fits_signed_mul w128 x (pos weight) (10 ^ 13) (2 ^ 50) p q (omega arith)
-
-small : (x : ℤ) (weight : ℕ) → unsigned_abs x ≤ 10 ^ 13 → weight ≤ 2 ^ 50
-    → unsigned_abs (x *ℤ pos weight) ≤ 10 ^ 13 * 2 ^ 50
-small x weight p q = subst (λ n. n ≤ 10 ^ 13 * 2 ^ 50) (sym (unsigned_abs-mul x (pos weight))) (mul-le-mul p q)
 
 pub overflow_mul-result : goal.overflow_mul-result
 overflow_mul-result c =
@@ -32,4 +29,4 @@ returns-clause-small c =
     let wide : FitsSigned w128 c.get.result = search rules in
     let weight : to_z w128 c.args.weight ≡ pos c.args.weight = to_z_pos w128 c.args.weight (omega (arith, c.requires)) in
     let product = fits c.get.result c.args.weight c.get.ensures.range c.requires in
-    simp (to_z-of_z, weight) (small c.get.result c.args.weight c.get.ensures.range c.requires)
+    simp (to_z-of_z, weight) (product_small c.get.result (pos c.args.weight) (10 ^ 13) (2 ^ 50) c.get.ensures.range c.requires)

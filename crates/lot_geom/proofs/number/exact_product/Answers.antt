@@ -1,14 +1,12 @@
-use Rattle.std.proofs.Common.{◌≤◌, ◌*ℤ◌, ◌^◌, ◌∙◌, ℤ, unsigned_abs, ap, subst, sym, mul-le-mul, FitsSigned, w64, arith, rules}
+use Rattle.std.proofs.Common.{◌≤◌, ◌*ℤ◌, ◌^◌, ◌∙◌, ℤ, unsigned_abs, ap, FitsSigned, w64, arith, rules}
 use Rattle.std.specs.Int.{w128}
-use Rattle.std.proofs.lemmas.Int.{fits_signed_mul, to_z-of_z, unsigned_abs-mul}
+use Rattle.std.proofs.lemmas.Int.{fits_signed_mul, to_z-of_z}
+use Rattle.lot_geom.proofs.Products.{product_small}
 use Rattle.lot_geom.proofs.number.exact_product.Goals as goal
 
 -- The product of two numbers in range fits.
 fits : (x y : ℤ) → unsigned_abs x ≤ 10 ^ 13 → unsigned_abs y ≤ 10 ^ 13 → FitsSigned w128 (x *ℤ y)
 fits x y p q = fits_signed_mul w128 x y (10 ^ 13) (10 ^ 13) p q (omega arith)
-
-small : (x y : ℤ) → unsigned_abs x ≤ 10 ^ 13 → unsigned_abs y ≤ 10 ^ 13 → unsigned_abs (x *ℤ y) ≤ 10 ^ 26
-small x y p q = subst (λ n. n ≤ 10 ^ 26) (sym (unsigned_abs-mul x y)) (mul-le-mul p q)
 
 pub overflow_mul-result : goal.overflow_mul-result
 overflow_mul-result c =
@@ -34,4 +32,4 @@ returns-clause-small c =
     let wide_x : FitsSigned w128 c.get.result = search rules in
     let wide_y : FitsSigned w128 c.get-2.result = search rules in
     let product = fits c.get.result c.get-2.result c.get.ensures.range c.get-2.ensures.range in
-    simp to_z-of_z (small c.get.result c.get-2.result c.get.ensures.range c.get-2.ensures.range)
+    simp to_z-of_z (product_small c.get.result c.get-2.result (10 ^ 13) (10 ^ 13) c.get.ensures.range c.get-2.ensures.range)
